@@ -1,0 +1,8 @@
+use Rattle.std.proofs.Common.{arith, ◌∙◌}
+use Rattle.vod_bytes.specs.Fields.{u16_at}
+use Rattle.vod_bytes.proofs.FieldLemmas.{rest_from}
+use Rattle.vod_bytes.proofs.fields.be_u16.Goals as goal
+
+pub returns : goal.returns
+unfolding u16_at
+returns c = c.read_u16.ensures ∙ rw (rest_from c.args.bytes.now c.args.at) (omega arith)
