@@ -1,0 +1,14 @@
+pub mod StepLemmas
+pub mod NumberLemmas
+pub mod NumberSpellings
+pub mod NumberRules
+pub mod FileLemmas
+pub mod TrackLists
+pub mod TrackRoomLemmas
+pub mod TrackReading
+pub mod RangesLemmas
+pub mod RuleLemmas
+pub mod JsonLemmas
+pub mod ElementsLemmas
+pub mod SettingsLemmas
+pub mod SettingsRows
