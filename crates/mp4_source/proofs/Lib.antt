@@ -1,0 +1,4 @@
+pub mod HeaderLemmas
+pub mod WayLemmas
+pub mod PlaceLemmas
+pub mod TurnLemmas
