@@ -1,0 +1,10 @@
+use Rattle.std.proofs.Common.{sym, arith}
+use Rattle.std.proofs.lemmas.Bool.{iff_false}
+use Rattle.mp4_tables.proofs.Shown.{stsc_shown, stsc_unread}
+use Rattle.mp4_tables.proofs.places.Stsc.read.Goals as goal
+
+pub returns-then-has_entries : goal.returns-then-has_entries
+returns-then-has_entries c = sym (stsc_shown _)
+
+pub returns-else-has_entries : goal.returns-else-has_entries
+returns-else-has_entries c = sym (stsc_unread c.args.body.now (omega (arith, iff_false c.has_entries.ensures c.if-has_entries.false)))
