@@ -1,0 +1,4 @@
+pub mod Views
+pub mod Bounds
+pub mod Spans
+pub mod Drafts

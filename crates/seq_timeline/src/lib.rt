@@ -1,0 +1,15 @@
+//! The pieces and the parts of a sequence of a mapping.
+#![tactic(auto)]
+
+mod pieces;
+mod places;
+mod sequence;
+mod spans;
+#[cfg(test)]
+mod tests;
+mod timed;
+mod times;
+
+pub use clip_model::{Part, Piece};
+pub use sequence::timeline;
+pub use timed::Timeline;
