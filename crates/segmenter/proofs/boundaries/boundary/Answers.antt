@@ -1,0 +1,10 @@
+use Rattle.std.proofs.Common.{◌≤◌, ap, ◌∙◌, sum, take, arith}
+use Rattle.segmenter.proofs.GridLemmas.{boundary_fits, front_small}
+use Rattle.segmenter.proofs.boundaries.boundary.Goals as goal
+
+pub overflow_add-result : goal.overflow_add-result
+overflow_add-result c =
+    let front = c.total.ensures ∙ ap (λ ds. sum (take c.min-first.result ds)) c.deref.ensures.value in
+    let few : c.total.result ≤ 9600000 = omega (arith, front, front_small c.grid.inside.bootstrap.items c.min-first.result c.grid.invariant.bootstrap c.grid.invariant.count) in
+    let fits = boundary_fits c.total.result c.saturating_sub-steps.result c.from.result few (omega arith) (omega (arith, c.grid.invariant.step.1)) in
+    omega (arith, fits)
