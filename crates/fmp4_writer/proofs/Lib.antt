@@ -1,0 +1,6 @@
+pub mod RowsLemmas
+pub mod FrontLemmas
+pub mod GrowthLemmas
+pub mod EntryLemmas
+pub mod SamplesLemmas
+pub mod ProgressLemmas

@@ -1,0 +1,4 @@
+pub mod Front
+pub mod Samples
+pub mod Entry
+pub mod Progress
