@@ -1,0 +1,7 @@
+//! The plain way to answer a request: of every file that it needs the lists of samples are written out, cut by the grid and
+//! written. It is the definition's plain program, short and slow; what it reads of the files is what the definition allows.
+#![tactic(auto)]
+
+mod requests;
+
+pub use requests::{FlatBody, answer};
