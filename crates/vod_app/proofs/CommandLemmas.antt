@@ -1,0 +1,159 @@
+-- Which words spell a command that is built.
+use Rattle.std.proofs.Common.{◌≡◌, ◌≢◌, ◌<◌, ℕ, suc, zero, Bool, true, false, List, [], ◌∷◌, length, get_or, Option, Some, None, refl, sym, ap, ◌∙◌, arith, subst, inl, inr}
+use Rattle.std.specs.Prelude.{◌⊎◌, ◌&&◌, not, ◌==◌, bytes_eq, codes, map, find, option_map, option_and_then, if◌then◌else◌}
+use Rattle.std.proofs.lemmas.Slice.Eq.{bytes_eq-Decides}
+use Rattle.vod_types.specs.Numbers.{number_up_to}
+use Rattle.vod_types.specs.Options.{passing}
+use Rattle.list_model.specs.Command.{Command, Requested, get, reads, plan, pack, serve, rehearse, command_of, none_empty, request_forms}
+use Rattle.vod_app.specs.Commands.{is_built, built_command}
+
+-- the command of four words, none of which is empty, by what the first one is
+abbrev form_found : Bool → Bool → Bool → Bool → Requested → Option Command
+form_found is_get is_reads is_plan is_pack q =
+    option_and_then (passing is_built)
+    (option_map (λ (form : List ℕ × (Requested → Command)). form.1 q)
+    (if is_get then Some (codes "get", get)
+    else (if is_reads then Some (codes "reads", reads)
+    else (if is_plan then Some (codes "plan", plan)
+    else (if is_pack then Some (codes "pack", pack) else None)))))
+
+other_form : (is_reads is_plan is_pack : Bool) (q : Requested) → form_found false is_reads is_plan is_pack q ≡ None
+other_form true is_plan is_pack q = refl
+other_form false true is_pack q = refl
+other_form false false true q = refl
+other_form false false false q = refl
+
+of_four : (all : Bool) (is_get is_reads is_plan is_pack : Bool) (q : Requested)
+    → option_and_then (passing is_built) (if all then (option_map (λ (form : List ℕ × (Requested → Command)). form.1 q)
+    (if is_get then Some (codes "get", get)
+    else (if is_reads then Some (codes "reads", reads)
+    else (if is_plan then Some (codes "plan", plan)
+    else (if is_pack then Some (codes "pack", pack) else None))))) else None)
+    ≡ (if all then form_found is_get is_reads is_plan is_pack q else None)
+of_four true is_get is_reads is_plan is_pack q = refl
+of_four false is_get is_reads is_plan is_pack q = refl
+
+built_command-four : (word root settings path : List ℕ)
+    → built_command (word ∷ root ∷ settings ∷ path ∷ [])
+    ≡ (if none_empty (root ∷ settings ∷ path ∷ [])
+    then form_found (bytes_eq (codes "get") word) (bytes_eq (codes "reads") word) (bytes_eq (codes "plan") word) (bytes_eq (codes "pack") word)
+    (record { root = root; settings = settings; path = path })
+    else None)
+unfolding built_command command_of
+built_command-four word root settings path =
+    of_four (none_empty (root ∷ settings ∷ path ∷ [])) (bytes_eq (codes "get") word) (bytes_eq (codes "reads") word) (bytes_eq (codes "plan") word)
+    (bytes_eq (codes "pack") word) (record { root = root; settings = settings; path = path })
+
+-- the words of another form, also of one that isn't built, spell nothing
+pub built-other : (word root settings path : List ℕ) → bytes_eq (codes "get") word ≡ false → built_command (word ∷ root ∷ settings ∷ path ∷ []) ≡ None
+built-other word root settings path e =
+    let q : Requested = record { root = root; settings = settings; path = path } in
+    let is_reads = bytes_eq (codes "reads") word in
+    let is_plan = bytes_eq (codes "plan") word in
+    let is_pack = bytes_eq (codes "pack") word in
+    built_command-four word root settings path
+    ∙ (rw e (none_either (none_empty (root ∷ settings ∷ path ∷ [])) (form_found false is_reads is_plan is_pack q) (other_form is_reads is_plan is_pack q)))
+  where
+    none_either : (all : Bool) (found : Option Command) → found ≡ None → (if all then found else None) ≡ None
+    none_either true found h = h
+    none_either false found h = refl
+
+-- an empty word spells nothing
+pub built-empty : (word root settings path : List ℕ) → none_empty (root ∷ settings ∷ path ∷ []) ≡ false → built_command (word ∷ root ∷ settings ∷ path ∷ []) ≡ None
+built-empty word root settings path e = built_command-four word root settings path ∙ rw e refl
+
+-- the words of `get`
+pub built-get : (root settings path : List ℕ) → none_empty (root ∷ settings ∷ path ∷ []) ≡ true
+    → built_command (codes "get" ∷ root ∷ settings ∷ path ∷ []) ≡ Some (get (record { root = root; settings = settings; path = path }))
+built-get root settings path e = built_command-four (codes "get") root settings path ∙ rw e refl
+
+-- words of another number
+serve_unbuilt : (root settings addr : List ℕ) (found : Option ℕ)
+    → option_and_then (passing is_built) (option_and_then (λ n. if n == 0 then None else Some (serve root settings addr n)) found) ≡ None
+serve_unbuilt root settings addr None = refl
+serve_unbuilt root settings addr (Some n) = by_count (n == 0)
+  where
+    by_count : (is_none : Bool) → option_and_then (passing is_built) (if is_none then None else Some (serve root settings addr n)) ≡ None
+    by_count true = refl
+    by_count false = refl
+
+pub other_number : (words : List (List ℕ)) → length words ≢ 4 → built_command words ≡ None
+unfolding built_command command_of
+other_number [] h = refl
+other_number (a ∷ []) h = refl
+other_number (a ∷ b ∷ []) h = none_of (bytes_eq a (codes "rehearse")) (number_up_to 4294967295 b)
+  where
+    none_of : (is_rehearse : Bool) (n : Option ℕ) → option_and_then (passing is_built) (if is_rehearse then option_map rehearse n else None) ≡ None
+    none_of true None = refl
+    none_of true (Some n) = refl
+    none_of false n = refl
+other_number (a ∷ b ∷ c ∷ []) h = refl
+other_number (a ∷ b ∷ c ∷ d ∷ []) h = absurd (h refl)
+other_number (a ∷ b ∷ c ∷ d ∷ e ∷ []) h = by_test (bytes_eq a (codes "serve") && none_empty (b ∷ c ∷ d ∷ []))
+  where
+    by_test : (test : Bool)
+        → option_and_then (passing is_built)
+        (if test then option_and_then (λ n. if n == 0 then None else Some (serve b c d n)) (number_up_to 4294967295 e) else None) ≡ None
+    by_test true = serve_unbuilt b c d (number_up_to 4294967295 e)
+    by_test false = refl
+other_number (a ∷ b ∷ c ∷ d ∷ e ∷ f ∷ words) h = refl
+
+-- four words by their places
+pub four_words : {X : Type 0} (words : List X) (a b c d : X) → length words ≡ 4 → a ≡ get_or words 0 a → b ≡ get_or words 1 b → c ≡ get_or words 2 c → d ≡ get_or words 3 d
+    → words ≡ a ∷ b ∷ c ∷ d ∷ []
+four_words [] a b c d h e f g i = absurd (omega arith)
+four_words (w ∷ []) a b c d h e f g i = absurd (omega arith)
+four_words (w ∷ x ∷ []) a b c d h e f g i = absurd (omega arith)
+four_words (w ∷ x ∷ y ∷ []) a b c d h e f g i = absurd (omega arith)
+four_words (w ∷ x ∷ y ∷ z ∷ []) a b c d h e f g i = cc
+four_words (w ∷ x ∷ y ∷ z ∷ v ∷ words) a b c d h e f g i = absurd (omega arith)
+
+-- ---- in the forms in which the code tests words
+
+-- a text that isn't this one
+differs : (a b : List ℕ) → true ≡ not (bytes_eq a b) → bytes_eq b a ≡ false
+differs a b h = by_test (bytes_eq b a) refl
+  where
+    by_test : (test : Bool) → bytes_eq b a ≡ test → bytes_eq b a ≡ false
+    by_test false e = e
+    by_test true e =
+        let same : b ≡ a = (bytes_eq-Decides b a).0 e in
+        let back : bytes_eq a b ≡ true = (bytes_eq-Decides a b).1 (sym same) in
+        absurd cc
+
+pub other_word : (word root settings path : List ℕ) → true ≡ not (bytes_eq word (codes "get")) → built_command (word ∷ root ∷ settings ∷ path ∷ []) ≡ None
+other_word word root settings path h = built-other word root settings path (differs word (codes "get") h)
+
+-- one of three words is empty
+and_false : (a b c : Bool) → (true ≡ a) ⊎ (true ≡ b) ⊎ (true ≡ c) → (not a && (not b && (not c && true))) ≡ false
+and_false true b c h = refl
+and_false false true c h = refl
+and_false false false true h = refl
+and_false false false false (inl h) = absurd cc
+and_false false false false (inr (inl h)) = absurd cc
+and_false false false false (inr (inr h)) = absurd cc
+
+pub empty_word : (word root settings path : List ℕ)
+    → (true ≡ (length root == 0)) ⊎ (true ≡ (length settings == 0)) ⊎ (true ≡ (length path == 0))
+    → built_command (word ∷ root ∷ settings ∷ path ∷ []) ≡ None
+empty_word word root settings path h =
+    built-empty word root settings path (and_false (length root == 0) (length settings == 0) (length path == 0) h)
+
+and_true : (a b c : Bool) → false ≡ a → false ≡ b → false ≡ c → (not a && (not b && (not c && true))) ≡ true
+and_true false false false h i j = refl
+and_true true b c h i j = absurd cc
+and_true false true c h i j = absurd cc
+and_true false false true h i j = absurd cc
+
+pub get_words : (word root settings path : List ℕ) → false ≡ not (bytes_eq word (codes "get"))
+    → false ≡ (length root == 0) → false ≡ (length settings == 0) → false ≡ (length path == 0)
+    → built_command (word ∷ root ∷ settings ∷ path ∷ []) ≡ Some (get (record { root = root; settings = settings; path = path }))
+get_words word root settings path h i j k =
+    let same : word ≡ codes "get" = (bytes_eq-Decides word (codes "get")).0 (not_false (bytes_eq word (codes "get")) h) in
+    let built = built-get root settings path (and_true (length root == 0) (length settings == 0) (length path == 0) i j k) in
+    let P : List ℕ → Type 0 = λ w. built_command (w ∷ root ∷ settings ∷ path ∷ []) ≡ Some (get (record { root = root; settings = settings; path = path })) in
+    subst P (sym same) built
+  where
+    not_false : (b : Bool) → false ≡ not b → b ≡ true
+    not_false true e = refl
+    not_false false e = absurd cc

@@ -1,0 +1,60 @@
+-- How a run ends, what it has written and what it has read; this project's own.
+use Rattle.std.specs.Prelude.{◌≡◌, ℕ, Bool, true, List, [], Option, Some, None, Result}
+use Rattle.vod_types.specs.declared.paths.Ask.{Ask}
+use Rattle.vod_types.specs.declared.refusal.Refusal.{Refusal}
+use Rattle.vod_types.specs.declared.refusal.Refusal.TheVariants as refusals
+use Rattle.vod_types.specs.Settled.{Settled}
+use Rattle.list_model.specs.Command.{Requested, Outcome, done, usage, refused, store_failed, sink_failed, no_memory, outcome_status}
+use Rattle.vod_source.specs.Stored.{Files, Read}
+use Rattle.origin_model.specs.Answers.{answer}
+use Rattle.origin_model.specs.Outcomes.{AreRunReads, GainsDue, GainsLine, GainsReads, due_answer, get_due, settings_named, settings_reads}
+use Rattle.origin_model.specs.Reads.{AreReads}
+use Rattle.origin_model.specs.Requests.{Setup}
+use Rattle.mp4_flat.specs.Calls.{AnswersUnlessFailed, LogsReads}
+use Rattle.vod_app.specs.declared.ends.End.{End}
+use Rattle.vod_app.specs.declared.ends.End.TheVariants as ends
+
+-- the outcome that an end stands for
+abbrev pub outcome_of : End → Outcome
+outcome_of ends.Done = done
+outcome_of ends.Usage = usage
+outcome_of (ends.Refused r) = refused r
+outcome_of ends.StoreFailed = store_failed
+outcome_of ends.SinkFailed = sink_failed
+outcome_of ends.NoMemory = no_memory
+
+-- the outcome of a call that was refused; a failure of the store and want of memory have outcomes of their own
+abbrev pub refused_outcome : Refusal → Outcome
+refused_outcome refusals.StoreFailed = store_failed
+refused_outcome refusals.NoMemory = no_memory
+refused_outcome r = refused r
+
+-- the settings that a file holds, or why it is refused, with the reads of it
+pub record AreSettingsRead (files : Files) (name : List ℕ) (result : Result Settled Refusal) (log log_now : Option (List Read)) : Type 0 where
+  pub answered : AnswersUnlessFailed (λ s. s) result (settings_named files name)
+  pub logged : LogsReads result (settings_reads files name) log log_now
+
+-- the refusal that stands for a cut
+abbrev pub cut_refusal : Option (ℕ × ℕ) → Option Refusal
+cut_refusal None = None
+cut_refusal (Some cut) = Some (refusals.BadNal cut.0 cut.1)
+
+-- what the answer of a path wrote, and what was read for it, by this outcome
+pub record IsAnswerWritten (built : Ask → Bool) (o : Setup) (path : List ℕ) (outcome : Outcome) (out out_now : Option (List ℕ)) (log log_now : Option (List Read)) : Type 0 where
+  pub wrote : GainsDue (due_answer (answer built o path)) outcome out out_now
+  pub reads : List Read
+  pub reads_are : AreReads built o [] true path reads
+  pub logged : GainsReads reads outcome log log_now
+
+-- what `get` wrote and read by this outcome
+pub record IsGet (built : Ask → Bool) (files : Files) (q : Requested) (o : Outcome) (out out_now : Option (List ℕ)) (log log_now : Option (List Read)) : Type 0 where
+  pub wrote : GainsDue (get_due built files q) o out out_now
+  pub reads : List Read
+  pub reads_are : AreRunReads built files q true reads
+  pub logged : GainsReads reads o log log_now
+
+-- a run tells its outcome by its status and by a line
+pub record TellsOutcome (status : ℕ) (err err_now : Option (List ℕ)) (faults faults_now : ℕ) : Type 0 where
+  pub outcome : Outcome
+  pub status_is : status ≡ outcome_status outcome
+  pub told : GainsLine outcome err err_now faults faults_now

@@ -1,0 +1,51 @@
+//! How a command ends.
+
+use vod_types::Refusal;
+
+/// How a command ended.
+#[derive(Debug, Drop)]
+pub enum End {
+    /// All is done.
+    Done,
+    /// The words are of no form that is built.
+    Usage,
+    /// The request was refused, or its body is cut by a bad sample.
+    Refused(Refusal),
+    /// A call on the store failed.
+    StoreFailed,
+    /// A call on the output failed.
+    SinkFailed,
+    /// Memory ran out.
+    NoMemory,
+}
+
+impl End {
+    ghost use Rattle.std.specs.Prelude.{◌≡◌};
+    ghost use Rattle.list_model.specs.Command.{outcome_status};
+    ghost use Rattle.vod_app.specs.Runs.{outcome_of, refused_outcome};
+
+    /// The end of a command of which a call was refused.
+    pub fn refused(refusal: Refusal) -> End
+        ensures { outcome_of result ≡ refused_outcome refusal }
+    {
+        match refusal {
+            Refusal::StoreFailed => End::StoreFailed,
+            Refusal::NoMemory => End::NoMemory,
+            refusal => End::Refused(refusal),
+        }
+    }
+
+    /// The status with which the program ends.
+    pub fn status(&self) -> u8
+        ensures { result ≡ outcome_status (outcome_of self.now) }
+    {
+        match self {
+            End::Done => 0,
+            End::Usage => 1,
+            End::Refused(_) => 2,
+            End::StoreFailed => 3,
+            End::SinkFailed => 4,
+            End::NoMemory => 5,
+        }
+    }
+}

@@ -1,0 +1,177 @@
+//! Runs over files in memory: their status, and the line that tells their end.
+
+use super::*;
+use crate::requests::put_body;
+use mp4_flat::FlatBody;
+use std::alloc::Global;
+use std::test::Fail;
+use vod_source::{MemDoor, MemSink, MemStore};
+use vod_types::Name;
+
+// A run: its words, its settings file `s.json`, and the call on the store that fails; and what is due.
+#[derive(Drop)]
+struct Case {
+    words: &'static [&'static str],
+    settings: &'static str,
+    fails: u64,
+    status: u8,
+    line: &'static str,
+}
+
+const USAGE: &str =
+    "usage: vodpack get|reads|plan|pack ROOT SETTINGS PATH, serve ROOT SETTINGS ADDR COUNT, rehearse N\n";
+
+// A fragment's path, of the file `a.mp4`.
+const PATH: &str = "/local/dash/a.mp4/fragment-1-a1.m4s";
+
+fn words(
+    words: &'static [&'static str],
+    settings: &'static str,
+    status: u8,
+    line: &'static str,
+) -> Case {
+    Case {
+        words,
+        settings,
+        fails: 0,
+        status,
+        line,
+    }
+}
+
+// Runs a case, and whether it came to what is due.
+fn is_due(alloc: Global, case: &Case) -> Result<bool, Fail> {
+    let mut spelled = Vec::new(alloc);
+    for word in case.words {
+        spelled.push(String::from_str(alloc, word)?)?;
+    }
+    let file = (
+        Name::new(alloc, "s.json")?,
+        case.settings.as_bytes().to_vec(alloc)?,
+    );
+    let store = MemStore::new(vec![in alloc; file]?, vec![in alloc; case.fails]?);
+    let mut door = MemDoor::new(alloc, Vec::new(alloc), Vec::new(alloc))?;
+    let mut out = MemSink::new(alloc, 100, Vec::new(alloc))?;
+    let mut err = MemSink::new(alloc, 200, Vec::new(alloc))?;
+    let ended = run(alloc, &spelled, store, &mut door, &mut out, &mut err);
+    Ok(
+        ended.status == case.status
+            && out.written().is_empty()
+            && err.written() == case.line.as_bytes(),
+    )
+}
+
+#[test]
+fn each_end_has_its_status_and_line(rt: HostRuntime) -> Result<(), Fail> {
+    let alloc = rt.alloc();
+    let form = "refused 14 Unsupported\n";
+    let cases = [
+        words(&["get"], "", 1, USAGE),
+        words(&[], "", 1, USAGE),
+        words(&["--help"], "", 1, USAGE),
+        words(&["get", "/r", "-", ""], "", 1, USAGE),
+        words(&["get", "", "-", PATH], "", 1, USAGE),
+        words(&["get", "/r", "-", PATH, PATH], "", 1, USAGE),
+        words(&["fetch", "/r", "-", PATH], "", 1, USAGE),
+        words(&["plan", "/r", "-", PATH], "", 1, USAGE),
+        words(&["rehearse", "1"], "", 1, USAGE),
+        words(&["get", "/r", "-", PATH], "", 2, form),
+        words(
+            &["get", "/r", "-", "/local/hls/a.mp4/seg-01-f1-a1.ts"],
+            "",
+            2,
+            "refused 4 BadPath\n",
+        ),
+        words(
+            &["get", "/r", "-", "/local/hls/a.mp4/index-f1-a1-v1.m3u8"],
+            "",
+            2,
+            "refused 4 BadPath\n",
+        ),
+        words(
+            &["get", "/r", "s.json", PATH],
+            "{\"segment_ms\":2000,\"policy\":\"last_long\"}",
+            2,
+            form,
+        ),
+        words(
+            &["get", "/r", "s.json", PATH],
+            "{\"align\":1}",
+            2,
+            "refused 6 BadSettings\n",
+        ),
+        words(
+            &["get", "/r", "s.json", PATH],
+            "",
+            2,
+            "refused 6 BadSettings\n",
+        ),
+        words(
+            &["get", "/r", "absent.json", PATH],
+            "{}",
+            2,
+            "refused 20 NoFile\n",
+        ),
+    ];
+    for case in &cases {
+        assert!(rt; is_due(alloc, case)?, "at {:?}", case.words);
+    }
+    Ok(())
+}
+
+#[test]
+fn store_that_fails_ends_the_run(rt: HostRuntime) -> Result<(), Fail> {
+    let alloc = rt.alloc();
+    for (fails, status, line) in [
+        (1, 3, "store failed\n"),
+        (2, 3, "store failed\n"),
+        (3, 2, "refused 14 Unsupported\n"),
+    ] {
+        let case = Case {
+            words: &["get", "/r", "s.json", PATH],
+            settings: "{}",
+            fails,
+            status,
+            line,
+        };
+        assert!(rt; is_due(alloc, &case)?, "at call {fails}");
+    }
+    Ok(())
+}
+
+#[test]
+fn line_that_cannot_be_written_changes_nothing(rt: HostRuntime) -> Result<(), Fail> {
+    let alloc = rt.alloc();
+    let word = vec![in alloc; String::from_str(alloc, "get")?]?;
+    let store = MemStore::new(Vec::new(alloc), Vec::new(alloc));
+    let mut door = MemDoor::new(alloc, Vec::new(alloc), Vec::new(alloc))?;
+    let mut out = MemSink::new(alloc, 0, Vec::new(alloc))?;
+    let mut err = MemSink::new(alloc, 0, Vec::new(alloc))?;
+    let ended = run(alloc, &word, store, &mut door, &mut out, &mut err);
+    assert_eq!(rt; ended.status, 1);
+    assert!(rt; err.written().is_empty());
+    Ok(())
+}
+
+#[test]
+fn body_is_written_whole_or_ends_the_run(rt: HostRuntime) -> Result<(), Fail> {
+    let alloc = rt.alloc();
+    for (room, cut, status, line) in [
+        (3, None, 0, ""),
+        (3, Some((0, 2)), 2, "refused 28 BadNal\n"),
+        (2, None, 4, ""),
+    ] {
+        let body = FlatBody {
+            bytes: b"abc".to_vec(alloc)?,
+            cut,
+        };
+        let mut out = MemSink::new(alloc, room, Vec::new(alloc))?;
+        let mut err = MemSink::new(alloc, 50, Vec::new(alloc))?;
+        let end = put_body(&body, &mut out);
+        tell(&mut err, &end);
+        assert_eq!(rt; end.status(), status);
+        assert_eq!(rt; err.written(), line.as_bytes());
+        assert_eq!(rt; out.written().len(), if status == 4 { 0 } else { 3 });
+    }
+    Ok(())
+}
