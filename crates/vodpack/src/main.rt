@@ -1,0 +1,38 @@
+//! Runs the command of the command line over real files and the standard streams.
+#![tactic(auto)]
+
+use std::alloc::Global;
+use std::process::ExitCode;
+use std::string::String;
+use std::{env, io};
+use vod_app::{Ended, run};
+use vod_host::{FileStore, HostSink};
+use vod_source::MemDoor;
+
+// The status where memory ran out.
+const NO_MEMORY: u8 = 5;
+
+fn main(rt: HostRuntime) -> ExitCode {
+    ExitCode::from(run_words(&rt).unwrap_or(NO_MEMORY))
+}
+
+// Runs the words of the command line, or finds no memory for what the run needs.
+fn run_words(rt: &HostRuntime) -> Option<u8> {
+    let alloc = rt.alloc();
+    let words = words(alloc, rt).ok()?;
+    let store = FileStore::new(alloc, rt.clone().ok()?).ok()?;
+    let mut door = MemDoor::new(alloc, Vec::new(alloc), Vec::new(alloc)).ok()?;
+    let mut out = HostSink::new(rt.stdout());
+    let mut err = HostSink::new(rt.stderr());
+    let Ended { status, store: _ } = run(alloc, &words, store, &mut door, &mut out, &mut err);
+    Some(status)
+}
+
+// The words behind the program's name.
+fn words(alloc: Global, rt: &HostRuntime) -> io::Result<Vec<String>> {
+    let mut words = Vec::new(alloc);
+    for word in env::args(rt)?.skip(1) {
+        words.push(word)?;
+    }
+    Ok(words)
+}
