@@ -163,7 +163,13 @@ fn movies_are_refused_at_their_first_fault(rt: HostRuntime) -> Result<(), Fail> 
     let inner = boxed(alloc, b"moov", &[short_mdia.as_slice(), BAD])?;
     let outer = boxed(alloc, b"moov", &[trak.as_slice(), BAD])?;
     let both = boxed(alloc, b"moov", &[b"\0\0\0\x08mvex", BAD])?;
+    let short_trak = boxed(alloc, b"trak", &[b"\0\0\0\x08free", BAD])?;
+    let middle = boxed(alloc, b"moov", &[short_trak.as_slice(), BAD])?;
     assert_eq!(rt; tracks(alloc, &mvex).err(), Some(MovieFault::Fragmented));
+    assert_eq!(rt;
+        tracks(alloc, &middle).err(),
+        Some(MovieFault::Box { at: 24 })
+    );
     assert_eq!(rt;
         tracks(alloc, &inner).err(),
         Some(MovieFault::Box { at: 68 })
