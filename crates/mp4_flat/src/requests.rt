@@ -1,8 +1,9 @@
 //! What a path is answered with.
 
-ghost use Rattle.std.specs.Prelude.{◌≡◌, ◌≢◌, ◌≤◌, IfSome, IsErrOf, codes};
+ghost use Rattle.std.specs.Prelude.{◌≡◌, ◌≢◌, ◌≤◌, IfSome, IsErr, IsErrOf, codes};
 ghost use Rattle.vod_source.specs.Causes.{Rose};
 ghost use Rattle.vod_types.specs.declared.refusal.Refusal.TheVariants.{NoMemory, StoreFailed, Unsupported};
+ghost use Rattle.origin_model.specs.Answers.{readable};
 ghost use Rattle.mp4_flat.specs.Built.{built_paths};
 ghost use Rattle.mp4_flat.specs.Flat.{IsFlatAnswer};
 
@@ -34,6 +35,8 @@ pub fn answer<S: Store>(
     ensures told { IfSome (S.content files.old) (λ known.
         IsFlatAnswer built_paths (record { settings = settings.now; root = root.now; files = known }) path.now result
         (S.log files.old) (S.log files.new)) }
+    // A form that is refused asks nothing of the store.
+    ensures unbuilt { IsErr (readable built_paths path.now) → files.new ≡ files.old }
     ensures content { S.content files.new ≡ S.content files.old }
     ensures later { S.faults files.old ≤ S.faults files.new }
     ensures store_failed { IsErrOf result StoreFailed → Rose (S.faults files.old) (S.faults files.new) }
