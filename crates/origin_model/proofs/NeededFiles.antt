@@ -58,10 +58,10 @@ unfolding checked
 piece_of-checked f asked p = kept p (loaded f p.name) _ (λ m. kept p (asked_track p m Video asked.video) _ (λ video. kept p (asked_track p m Audio asked.audio) _ (λ audio. refl)))
 
 -- where a piece ends
-abbrev piece_ends_after : ℤ → Piece → Bool
+abbrev pub piece_ends_after : ℤ → Piece → Bool
 piece_ends_after time p = is_below time (option_map (λ hi. p.base +ℤ hi) p.hi)
 
-ends_after-source : (f : Files) (asked : Asked) (time : ℤ) (p : Piece) → ends_after time (source_of f asked p) ≡ piece_ends_after time p
+pub ends_after-source : (f : Files) (asked : Asked) (time : ℤ) (p : Piece) → ends_after time (source_of f asked p) ≡ piece_ends_after time p
 unfolding source_piece
 ends_after-source f asked time p = ap (piece_ends_after time) (piece_of-checked f asked p)
 
@@ -109,11 +109,11 @@ module _ {X : Type 0} (a b : X → Bool) where
 -- ---- the needed pieces of a cell
 
 -- of pieces that stand for others, the others that are needed
-abbrev needed_by : (Piece → SourcePiece) → PartGrid → ℕ → Option ℕ → List Piece → List Piece
+abbrev pub needed_by : (Piece → SourcePiece) → PartGrid → ℕ → Option ℕ → List Piece → List Piece
 needed_by s grid k o ps = take (length (needed_pieces grid o k (map s ps))) (drop (skipped grid o k (map s ps)) ps)
 
 module _ (s : Piece → SourcePiece) (grid : PartGrid) (k : ℕ) (ends : (p : Piece) → ends_after (cell_time grid k) (s p) ≡ piece_ends_after (cell_time grid k) p) where
-  abbrev rest : List Piece → List Piece
+  abbrev pub rest : List Piece → List Piece
   rest ps = from_first (piece_ends_after (cell_time grid k)) ps
 
   rest-source : (ps : List Piece) → from_first (ends_after (cell_time grid k)) (map s ps) ≡ map s (rest ps)
@@ -121,7 +121,7 @@ module _ (s : Piece → SourcePiece) (grid : PartGrid) (k : ℕ) (ends : (p : Pi
       ap (λ (n : ℕ). drop n (map s ps)) (position-map s (ends_after (cell_time grid k)) (piece_ends_after (cell_time grid k)) ends ps)
       ∙ drop-map s (position_or_len (piece_ends_after (cell_time grid k)) ps) ps
 
-  abbrev needed_piecewise : Bool → List Piece → List Piece
+  abbrev pub needed_piecewise : Bool → List Piece → List Piece
   needed_piecewise more ps = cond more (through_first (λ p. begins grid (suc k) (s p)) ps) ps
 
   needed-cond : (more : Bool) (ps : List Piece) → take (length (cond more (through_first (begins grid (suc k)) (map s ps)) (map s ps))) ps ≡ needed_piecewise more ps
@@ -130,7 +130,7 @@ module _ (s : Piece → SourcePiece) (grid : PartGrid) (k : ℕ) (ends : (p : Pi
       ∙ ap (λ (n : ℕ). take (n + 1) ps) (position-map s (begins grid (suc k)) (λ p. begins grid (suc k) (s p)) (λ p. refl) ps)
   needed-cond false ps = take-length s ps
 
-  needed_by-declared : (n : ℕ) (ps : List Piece) → needed_by s grid k (Some n) ps ≡ needed_piecewise (nat_lt (suc k) grid.cells) (rest ps)
+  pub needed_by-declared : (n : ℕ) (ps : List Piece) → needed_by s grid k (Some n) ps ≡ needed_piecewise (nat_lt (suc k) grid.cells) (rest ps)
   unfolding needed
   needed_by-declared n ps =
       ap (λ (xs : List SourcePiece). take (length (cond (nat_lt (suc k) grid.cells) (through_first (begins grid (suc k)) xs) xs)) (drop (position_or_len (ends_after (cell_time grid k)) (map s ps)) ps)) (rest-source ps)

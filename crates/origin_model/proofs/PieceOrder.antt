@@ -143,7 +143,7 @@ undeclared_first : (o : Option ℕ) (b : Bool) (P Q : Type 0) → IfNone o (P ×
 undeclared_first None b P Q h e rest = h.0
 undeclared_first (Some n) b P Q h e rest = rest e
 
-no_length : (all parts : List Part) → All (OpenLength all) parts → list_all (λ part. is_some part.length_ms) parts ≡ false → length all ≡ 1
+pub no_length : (all parts : List Part) → All (OpenLength all) parts → list_all (λ part. is_some part.length_ms) parts ≡ false → length all ≡ 1
 no_length all [] h e = absurd (cc)
 no_length all (p ∷ ps) h e =
     undeclared_first p.length_ms (list_all (λ part. is_some part.length_ms) ps) (length all ≡ 1) ((p.count ≡ 1) × (p.start ≡ pos 0))
