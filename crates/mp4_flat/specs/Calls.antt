@@ -14,3 +14,8 @@ AnswersUnlessFailed view (Err e) due = e ≢ NoMemory → e ≢ StoreFailed → 
 abbrev pub LogsReads : {X : Type 0} → Result X Refusal → List Read → Option (List Read) → Option (List Read) → Type 0
 LogsReads (Ok x) reads before now = now ≡ told_with before reads
 LogsReads (Err e) reads before now = GrewByPrefix before now reads × (e ≢ NoMemory → e ≢ StoreFailed → now ≡ told_with before reads)
+
+-- What was due of a call is what it answered, and these reads were made for it.
+pub record Came {X Y : Type 0} (view : X → Y) (result : Result X Refusal) (due : Result Y Refusal) (reads : List Read) (log log_now : Option (List Read)) : Type 0 where
+  pub answered : AnswersUnlessFailed view result due
+  pub logged : LogsReads result reads log log_now

@@ -1,15 +1,16 @@
 -- What the plain way answers; this project's own.
-use Rattle.std.specs.Prelude.{◌≡◌, ℕ, Bool, true, List, [], Option, Some, None, Result}
+use Rattle.std.specs.Prelude.{ℕ, Bool, true, List, [], ◌++◌, Option, Some, None, Result}
 use Rattle.std.specs.Result.{result_map_both}
 use Rattle.vod_types.specs.declared.paths.Ask.{Ask}
 use Rattle.vod_types.specs.declared.refusal.Refusal.{Refusal}
 use Rattle.list_model.specs.Reply.{End, whole, bad_nal, Answer, Body}
-use Rattle.vod_source.specs.Stored.{Files, Read}
-use Rattle.origin_model.specs.Answers.{answer}
-use Rattle.origin_model.specs.Reads.{AreReads}
-use Rattle.origin_model.specs.Requests.{Setup}
+use Rattle.vod_source.specs.Stored.{Read}
+use Rattle.vod_types.specs.declared.paths.Leaf.{Leaf}
+use Rattle.origin_model.specs.Answers.{answer, ask_answer, leaf_answer}
+use Rattle.origin_model.specs.Reads.{AreReads, ask_reads, turns, turn_names, sample_reads}
+use Rattle.origin_model.specs.Requests.{Setup, Asking}
 use Rattle.mp4_flat.specs.declared.requests.FlatBody.{FlatBody}
-use Rattle.mp4_flat.specs.Calls.{AnswersUnlessFailed, LogsReads}
+use Rattle.mp4_flat.specs.Calls.{AnswersUnlessFailed, LogsReads, Came}
 
 -- the file and the number of the bad sample before which a body ends
 abbrev pub cut_of : End → Option (ℕ × ℕ)
@@ -32,3 +33,14 @@ pub record IsFlatAnswer (built : Ask → Bool) (o : Setup) (path : List ℕ) (re
   pub reads : List Read
   pub reads_are : AreReads built o [] true path reads
   pub logged : LogsReads result reads log log_now
+
+-- the answer of a request, and its reads
+abbrev pub IsAskAnswer : Setup → Ask → Result FlatBody Refusal → Option (List Read) → Option (List Read) → Type 0
+IsAskAnswer o ask result log log_now = Came flat_shown result (flat_seen (ask_answer o ask)) (ask_reads o [] true [] ask) log log_now
+
+-- the answer of a leaf, and its reads after those for what is asked
+abbrev pub leaf_reads : Setup → Asking → Leaf → List Read
+leaf_reads o a leaf = (turns o.files [] (turn_names o a leaf)).reads ++ sample_reads o a leaf
+
+abbrev pub IsLeafAnswer : Setup → Asking → Leaf → Result FlatBody Refusal → Option (List Read) → Option (List Read) → Type 0
+IsLeafAnswer o a leaf result log log_now = Came flat_shown result (flat_seen (leaf_answer o a leaf)) (leaf_reads o a leaf) log log_now

@@ -1,16 +1,30 @@
--- Every path is refused, before any call on the store.
-use Rattle.std.proofs.Common.{◌≡◌, ◌≢◌, Ok, Err}
-use Rattle.list_model.specs.Path.{ask_of}
-use Rattle.mp4_flat.proofs.Unbuilt.{refused_unbuilt, bad_path, form_refused, told_all}
+use Rattle.std.proofs.Common.{sym, ◌∙◌, []}
+use Rattle.mp4_flat.specs.Asked.{setup_of}
+use Rattle.mp4_flat.proofs.CameLemmas.{told_all, told_with_all}
+use Rattle.mp4_flat.proofs.Leaves.{built_is_readable, built_leaf, few_names, form_refused, path_answered, path_refused}
 use Rattle.mp4_flat.proofs.requests.answer.Goals as goal
 
 pub returns-in-Err-clause-told : goal.returns-in-Err-clause-told
 returns-in-Err-clause-told g c =
     told_all (g.S.Store.content c.args.files.now) _
-    (λ known. refused_unbuilt _ c.args.path.now c.in-Err.refusal _ (λ other. bad_path (ask_of c.args.path.now) c.in-Err.refusal (c.in-Err.ensures other)))
+    (λ known. path_refused (setup_of c.args.settings.now c.args.root.now known) c.args.path.now c.in-Err.refusal _ c.in-Err.ensures)
 
-pub returns-in-Ok-clause-told : goal.returns-in-Ok-clause-told
-returns-in-Ok-clause-told g c =
+pub returns-then-not-is_built-clause-told : goal.returns-then-not-is_built-clause-told
+returns-then-not-is_built-clause-told g c =
     told_all (g.S.Store.content c.args.files.now) _
-    (λ known. refused_unbuilt _ c.args.path.now c.unbuilt.result _
-    (λ other. form_refused (ask_of c.args.path.now) c.in-Ok._ask c.unbuilt.result c.in-Ok.ensures (c.unbuilt.ensures.form other)))
+    (λ known. form_refused (setup_of c.args.settings.now c.args.root.now known) c.args.path.now c.in-Ok.ask c.unbuilt.result _ c.in-Ok.ensures (sym c.if-not-is_built.true ∙ c.is_built.ensures) c.unbuilt.ensures.form)
+
+pub answer_ask-requires-clause-built : goal.answer_ask-requires-clause-built
+answer_ask-requires-clause-built g c = built_leaf c.in-Ok.ask (sym c.if-not-is_built.false ∙ c.is_built.ensures)
+
+pub answer_ask-requires-clause-names : goal.answer_ask-requires-clause-names
+answer_ask-requires-clause-names g c = few_names (setup_of c.args.settings.now c.args.root.now []) c.args.path.now c.in-Ok.ask c.in-Ok.ensures
+
+pub returns-clause-told : goal.returns-clause-told
+returns-clause-told g c =
+    told_with_all (g.S.Store.content c.args.files.now) _ _ c.answer_ask.ensures.told
+    (λ known came. path_answered (setup_of c.args.settings.now c.args.root.now known) c.args.path.now c.in-Ok.ask c.answer_ask.result _ _ c.in-Ok.ensures (sym c.if-not-is_built.false ∙ c.is_built.ensures) came)
+
+pub returns-clause-unbuilt : goal.returns-clause-unbuilt
+returns-clause-unbuilt g c = λ err.
+    absurd (built_is_readable (setup_of c.args.settings.now c.args.root.now []) c.args.path.now c.in-Ok.ask c.in-Ok.ensures (sym c.if-not-is_built.false ∙ c.is_built.ensures) err)

@@ -1,0 +1,25 @@
+use Rattle.std.proofs.Common.{◌≡◌, ◌≤◌, IfSome, IsTrue}
+use Rattle.vod_types.specs.SegmentRows.{sample_bytes}
+use Rattle.vod_source.specs.Stored.{bytes_of}
+use Rattle.media_model.specs.Fragment.{fragment}
+use Rattle.fmp4_writer.specs.Progress.{is_under_way, AreLeft, rest_of}
+use Rattle.mp4_flat.proofs.Steps.{IsUnderWay, all_reads, reads_left, steps_left}
+use Rattle.mp4_flat.proofs.fragment.write_whole.Given as goal
+
+abbrev pub invariant-steps : goal.invariant-steps
+invariant-steps g l =
+    let rows = g.R.Rows.rows l.fn.rows in
+    record {
+      under_way : IsTrue (is_under_way l.writing);
+      left : AreLeft l.writing rows (g.R.Rows.places l.rows);
+      same : g.R.Rows.rows l.rows ≡ rows;
+      content : g.S.Store.content l.files ≡ g.S.Store.content l.fn.files;
+      written : IfSome (g.S.Store.content l.fn.files) (λ known. IsUnderWay (g.K.Sink.written l.fn.sink) (g.K.Sink.written l.sink)
+          (fragment l.number (sample_bytes (bytes_of known) rows) rows.video rows.audio)
+          (rest_of (sample_bytes (bytes_of known) rows) l.writing rows (g.R.Rows.places l.rows)));
+      log : IsUnderWay (g.S.Store.log l.fn.files) (g.S.Store.log l.files) (all_reads rows) (reads_left l.writing rows (g.R.Rows.places l.rows));
+      later : g.S.Store.faults l.fn.files ≤ g.S.Store.faults l.files;
+    }
+
+abbrev pub decreases-steps : goal.decreases-steps
+decreases-steps g l = steps_left l.writing (g.R.Rows.rows l.fn.rows)

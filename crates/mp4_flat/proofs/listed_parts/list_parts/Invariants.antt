@@ -1,0 +1,19 @@
+use Rattle.std.proofs.Common.{List, ◌≡◌, ◌+◌, drop, map}
+use Rattle.std.specs.Prelude.{sum}
+use Rattle.segment_model.specs.Cut.{listed}
+use Rattle.segment_model.specs.Timeline.{SourcePiece}
+use Rattle.mp4_flat.specs.ListedCells.{slices_view}
+use Rattle.mp4_flat.specs.ListedParts.{part_over, AreRowsOfParts}
+use Rattle.mp4_flat.specs.Listings.{listed_view}
+use Rattle.mp4_flat.specs.Rows.{ArePlacedRows}
+use Rattle.mp4_flat.proofs.ListedParts.{IsRest}
+use Rattle.mp4_flat.proofs.listed_parts.list_parts.Given as goal
+
+abbrev pub invariant-loop-place : goal.invariant-loop-place
+invariant-loop-place l = record {
+  numbers : l.number + sum (drop l.place l.counts) ≡ 1 + sum l.counts;
+  placed : ArePlacedRows (slices_view l.rest);
+  rest : (pieces : List SourcePiece) → AreRowsOfParts l.cut.grid.now l.cut.align l.parts l.counts (slices_view l.rows) pieces
+      → IsRest l.cut.grid.now l.cut.align l.leads pieces (drop l.place l.parts) (drop l.place l.counts) l.place l.number (slices_view l.rest) (map listed_view l.out.items)
+      (listed l.leads l.cut.grid.now l.cut.align (map (part_over pieces) l.parts));
+}
