@@ -1,10 +1,10 @@
 -- Which words spell a command that is built.
-use Rattle.std.proofs.Common.{◌≡◌, ◌≢◌, ◌<◌, ℕ, suc, zero, Bool, true, false, List, [], ◌∷◌, length, get_or, Option, Some, None, refl, sym, ap, ◌∙◌, arith, subst, inl, inr}
-use Rattle.std.specs.Prelude.{◌⊎◌, ◌&&◌, not, ◌==◌, bytes_eq, codes, map, find, option_map, option_and_then, if◌then◌else◌}
+use Rattle.std.proofs.Common.{◌≡◌, ◌≢◌, ℕ, Bool, true, false, List, [], ◌∷◌, length, get_or, Option, Some, None, refl, sym, ap, ◌∙◌, arith, inl, inr}
+use Rattle.std.specs.Prelude.{◌⊎◌, ◌&&◌, not, ◌==◌, bytes_eq, codes, option_map, option_and_then, if◌then◌else◌}
 use Rattle.std.proofs.lemmas.Slice.Eq.{bytes_eq-Decides}
 use Rattle.vod_types.specs.Numbers.{number_up_to}
 use Rattle.vod_types.specs.Options.{passing}
-use Rattle.list_model.specs.Command.{Command, Requested, get, reads, plan, pack, serve, rehearse, command_of, none_empty, request_forms}
+use Rattle.list_model.specs.Command.{Command, Requested, get, reads, plan, pack, serve, rehearse, command_of, none_empty}
 use Rattle.vod_app.specs.Commands.{is_built, built_command}
 
 -- the command of four words, none of which is empty, by what the first one is
@@ -17,11 +17,10 @@ form_found is_get is_reads is_plan is_pack q =
     else (if is_plan then Some (codes "plan", plan)
     else (if is_pack then Some (codes "pack", pack) else None)))))
 
-other_form : (is_reads is_plan is_pack : Bool) (q : Requested) → form_found false is_reads is_plan is_pack q ≡ None
-other_form true is_plan is_pack q = refl
-other_form false true is_pack q = refl
-other_form false false true q = refl
-other_form false false false q = refl
+other_form : (is_reads is_pack : Bool) (q : Requested) → form_found false is_reads false is_pack q ≡ None
+other_form true is_pack q = refl
+other_form false true q = refl
+other_form false false q = refl
 
 of_four : (all : Bool) (is_get is_reads is_plan is_pack : Bool) (q : Requested)
     → option_and_then (passing is_built) (if all then (option_map (λ (form : List ℕ × (Requested → Command)). form.1 q)
@@ -45,14 +44,14 @@ built_command-four word root settings path =
     (bytes_eq (codes "pack") word) (record { root = root; settings = settings; path = path })
 
 -- the words of another form, also of one that isn't built, spell nothing
-pub built-other : (word root settings path : List ℕ) → bytes_eq (codes "get") word ≡ false → built_command (word ∷ root ∷ settings ∷ path ∷ []) ≡ None
-built-other word root settings path e =
+pub built-other : (word root settings path : List ℕ) → bytes_eq (codes "get") word ≡ false → bytes_eq (codes "plan") word ≡ false
+    → built_command (word ∷ root ∷ settings ∷ path ∷ []) ≡ None
+built-other word root settings path e f =
     let q : Requested = record { root = root; settings = settings; path = path } in
     let is_reads = bytes_eq (codes "reads") word in
-    let is_plan = bytes_eq (codes "plan") word in
     let is_pack = bytes_eq (codes "pack") word in
     built_command-four word root settings path
-    ∙ (rw e (none_either (none_empty (root ∷ settings ∷ path ∷ [])) (form_found false is_reads is_plan is_pack q) (other_form is_reads is_plan is_pack q)))
+    ∙ (rw (e, f) (none_either (none_empty (root ∷ settings ∷ path ∷ [])) (form_found false is_reads false is_pack q) (other_form is_reads is_pack q)))
   where
     none_either : (all : Bool) (found : Option Command) → found ≡ None → (if all then found else None) ≡ None
     none_either true found h = h
@@ -66,6 +65,11 @@ built-empty word root settings path e = built_command-four word root settings pa
 pub built-get : (root settings path : List ℕ) → none_empty (root ∷ settings ∷ path ∷ []) ≡ true
     → built_command (codes "get" ∷ root ∷ settings ∷ path ∷ []) ≡ Some (get (record { root = root; settings = settings; path = path }))
 built-get root settings path e = built_command-four (codes "get") root settings path ∙ rw e refl
+
+-- the words of `plan`
+pub built-plan : (root settings path : List ℕ) → none_empty (root ∷ settings ∷ path ∷ []) ≡ true
+    → built_command (codes "plan" ∷ root ∷ settings ∷ path ∷ []) ≡ Some (plan (record { root = root; settings = settings; path = path }))
+built-plan root settings path e = built_command-four (codes "plan") root settings path ∙ rw e refl
 
 -- words of another number
 serve_unbuilt : (root settings addr : List ℕ) (found : Option ℕ)
@@ -111,18 +115,15 @@ four_words (w ∷ x ∷ y ∷ z ∷ v ∷ words) a b c d h e f g i = absurd (ome
 -- ---- in the forms in which the code tests words
 
 -- a text that isn't this one
-differs : (a b : List ℕ) → true ≡ not (bytes_eq a b) → bytes_eq b a ≡ false
-differs a b h = by_test (bytes_eq b a) refl
+differs : (a b : List ℕ) → a ≢ b → bytes_eq b a ≡ false
+differs a b other = by_test (bytes_eq b a) refl
   where
     by_test : (test : Bool) → bytes_eq b a ≡ test → bytes_eq b a ≡ false
     by_test false e = e
-    by_test true e =
-        let same : b ≡ a = (bytes_eq-Decides b a).0 e in
-        let back : bytes_eq a b ≡ true = (bytes_eq-Decides a b).1 (sym same) in
-        absurd cc
+    by_test true e = absurd (other (sym ((bytes_eq-Decides b a).0 e)))
 
-pub other_word : (word root settings path : List ℕ) → true ≡ not (bytes_eq word (codes "get")) → built_command (word ∷ root ∷ settings ∷ path ∷ []) ≡ None
-other_word word root settings path h = built-other word root settings path (differs word (codes "get") h)
+pub other_word : (word root settings path : List ℕ) → word ≢ codes "get" → word ≢ codes "plan" → built_command (word ∷ root ∷ settings ∷ path ∷ []) ≡ None
+other_word word root settings path h i = built-other word root settings path (differs word (codes "get") h) (differs word (codes "plan") i)
 
 -- one of three words is empty
 and_false : (a b c : Bool) → (true ≡ a) ⊎ (true ≡ b) ⊎ (true ≡ c) → (not a && (not b && (not c && true))) ≡ false
@@ -145,15 +146,12 @@ and_true true b c h i j = absurd cc
 and_true false true c h i j = absurd cc
 and_true false false true h i j = absurd cc
 
-pub get_words : (word root settings path : List ℕ) → false ≡ not (bytes_eq word (codes "get"))
-    → false ≡ (length root == 0) → false ≡ (length settings == 0) → false ≡ (length path == 0)
-    → built_command (word ∷ root ∷ settings ∷ path ∷ []) ≡ Some (get (record { root = root; settings = settings; path = path }))
-get_words word root settings path h i j k =
-    let same : word ≡ codes "get" = (bytes_eq-Decides word (codes "get")).0 (not_false (bytes_eq word (codes "get")) h) in
-    let built = built-get root settings path (and_true (length root == 0) (length settings == 0) (length path == 0) i j k) in
-    let P : List ℕ → Type 0 = λ w. built_command (w ∷ root ∷ settings ∷ path ∷ []) ≡ Some (get (record { root = root; settings = settings; path = path })) in
-    subst P (sym same) built
-  where
-    not_false : (b : Bool) → false ≡ not b → b ≡ true
-    not_false true e = refl
-    not_false false e = absurd cc
+module _ (word root settings path : List ℕ) (root_some : false ≡ (length root == 0)) (settings_some : false ≡ (length settings == 0)) (path_some : false ≡ (length path == 0)) where
+  none_is : none_empty (root ∷ settings ∷ path ∷ []) ≡ true
+  none_is = and_true (length root == 0) (length settings == 0) (length path == 0) root_some settings_some path_some
+
+  pub get_words : word ≡ codes "get" → built_command (word ∷ root ∷ settings ∷ path ∷ []) ≡ Some (get (record { root = root; settings = settings; path = path }))
+  get_words e = ap (λ w. built_command (w ∷ root ∷ settings ∷ path ∷ [])) e ∙ built-get root settings path none_is
+
+  pub plan_words : word ≡ codes "plan" → built_command (word ∷ root ∷ settings ∷ path ∷ []) ≡ Some (plan (record { root = root; settings = settings; path = path }))
+  plan_words e = ap (λ w. built_command (w ∷ root ∷ settings ∷ path ∷ [])) e ∙ built-plan root settings path none_is

@@ -1,22 +1,25 @@
 -- What a run writes and reads, step by step.
-use Rattle.std.proofs.Common.{◌≡◌, ◌≢◌, ◌+◌, ◌<◌, ℕ, suc, zero, Bool, true, List, [], ◌∷◌, ◌++◌, length, get_or, take, drop, map, Option, Some, None, IfSome, Result, Ok, Err, refl, sym, ap, ◌∙◌, arith, subst, Bor, append_assoc, append-nil, add-one}
+use Rattle.std.proofs.Common.{◌≡◌, ◌≢◌, ◌+◌, ◌<◌, ℕ, suc, zero, Bool, true, false, List, [], ◌∷◌, ◌++◌, length, get_or, take, map, Option, Some, None, Result, Ok, Err, refl, sym, ap, ◌∙◌, arith, subst, Bor, append_assoc, append-nil, add-one}
 use Rattle.std.specs.List.{concat}
 use Rattle.vod_types.specs.declared.refusal.Refusal.{Refusal}
 use Rattle.vod_types.specs.declared.refusal.Refusal.TheVariants.{NoMemory, StoreFailed}
 use Rattle.vod_types.specs.declared.paths.Ask.{Ask}
 use Rattle.vod_types.specs.Results.{◌>>=◌}
 use Rattle.vod_types.specs.Settled.{Settled}
-use Rattle.list_model.specs.Command.{Command, Outcome, Requested, get, outcome_status, done, usage, refused, no_memory, store_failed, sink_failed, door_failed}
+use Rattle.list_model.specs.Command.{Outcome, Requested, plan_text, done, usage, refused, no_memory, store_failed, sink_failed, door_failed}
 use Rattle.list_model.specs.Reply.{Answer}
-use Rattle.origin_model.specs.Answers.{answer}
-use Rattle.origin_model.specs.Outcomes.{AreRequestReads, GainsDue, GainsLine, GainsReads, GetOutcome, due_answer, get_due, run_setup, settings_named, settings_reads, setup_with}
-use Rattle.origin_model.specs.Reads.{path_reads}
+use Rattle.origin_model.specs.Answers.{answer, path_rows}
+use Rattle.origin_model.specs.Outcomes.{AreRequestReads, Due, GainsDue, GainsReads, due_answer, due_rows, get_due, plan_due, run_setup, settings_reads, setup_with}
+use Rattle.origin_model.specs.Reads.{AreReads, for_rows, path_reads}
 use Rattle.origin_model.specs.Requests.{Setup}
+use Rattle.mp4_flat.specs.declared.listed_row.Listed.{Listed}
+use Rattle.mp4_flat.specs.Calls.{LogsReads}
 use Rattle.mp4_flat.specs.Flat.{IsFlatAnswer, flat_seen}
-use Rattle.vod_app.specs.Runs.{AreSettingsRead, IsAnswerWritten, IsGet, refused_outcome}
+use Rattle.mp4_flat.specs.Listings.{AreListed, every_path, listed_view}
+use Rattle.vod_app.specs.Runs.{AreSettingsRead, IsAnswerWritten, IsGet, IsPlan, IsPlanWritten, IsRun, IsWritten, refused_outcome}
 use Rattle.vod_source.specs.Stored.{Files, Read}
 use Rattle.vod_source.specs.Told.{told_with, GrewByPrefix}
-use Rattle.vod_source.proofs.ToldLemmas.{told_with-nil, told_with-append, told_with-more, GrewByPrefix-same, GrewByPrefix-after, GrewByPrefix-more}
+use Rattle.vod_source.proofs.ToldLemmas.{told_with-nil, told_with-more, GrewByPrefix-same, GrewByPrefix-after, GrewByPrefix-more, GrewByPrefix-whole}
 
 -- ---- pieces that are written one after another
 
@@ -61,127 +64,168 @@ by_refusal P memory store other NoMemory = memory
 by_refusal P memory store other StoreFailed = store
 by_refusal P memory store other r = other r (λ e. cc) (λ e. cc)
 
--- ---- answers that are refused
+-- ---- what is gained where a call is refused
+
+-- nothing is written, and what was read is in the log
+module _ (due : Due) (reads : List Read) (out : Option (List ℕ)) (log log_now : Option (List Read)) where
+  abbrev Gained : Refusal → Outcome → Type 0
+  Gained r outcome = (r ≢ NoMemory → r ≢ StoreFailed → due ≡ ([], Some r)) → LogsReads {X = List ℕ} (Err r) reads log log_now
+      → GainsDue due outcome out out × GainsReads reads outcome log log_now
+
+  gained_refused : (r : Refusal) → Gained r (refused_outcome r)
+  gained_refused =
+      by_refusal Gained
+      (λ refuses logged. (GrewByPrefix-same out out due.0 refl, logged.0))
+      (λ refuses logged. (GrewByPrefix-same out out due.0 refl, logged.0))
+      (λ r known_memory known_store refuses logged. (
+        subst (λ due. GainsDue due (refused r) out out) (sym (refuses known_memory known_store)) (refl, sym (told_with-nil out)),
+        logged.1 known_memory known_store,
+      ))
+
+-- a request that is refused
+pub written_refused : {due : Due} {built : Ask → Bool} {o : Setup} {with_body : Bool} {path : List ℕ} (reads : List Read) (r : Refusal) (outcome : Outcome)
+    (out : Option (List ℕ)) (log log_now : Option (List Read)) → outcome ≡ refused_outcome r → (r ≢ NoMemory → r ≢ StoreFailed → due ≡ ([], Some r))
+    → AreReads built o [] with_body path reads → LogsReads {X = List ℕ} (Err r) reads log log_now → IsWritten due built o with_body path outcome out out log log_now
+written_refused {due} {built} {o} {with_body} {path} reads r outcome out log log_now e refuses are logged =
+    let gained = gained_refused due reads out log log_now r refuses logged in
+    subst (λ told. IsWritten due built o with_body path told out out log log_now) (sym e)
+    (record { wrote = gained.0; reads = reads; reads_are = are; logged = gained.1 })
+
+-- ---- a whole run
+
+-- the reads that a request may make, whatever was refused before
+abbrev some_reads : (Ask → Bool) → Requested → Bool → Result Setup Refusal → List Read
+some_reads built q with_body (Ok o) = path_reads built o [] with_body [] q.path
+some_reads built q with_body (Err r) = []
+
+are_some_reads : (built : Ask → Bool) (files : Files) (q : Requested) (with_body : Bool) (setup : Result Setup Refusal)
+    → AreRequestReads built files q with_body setup (some_reads built q with_body setup)
+are_some_reads built files q with_body (Ok o) = record { taken = []; are = refl }
+are_some_reads built files q with_body (Err r) = refl
+
+gained_more : (outcome : Outcome) (first second : List Read) (log log_mid log_now : Option (List Read)) → log_mid ≡ told_with log first
+    → GainsReads second outcome log_mid log_now → GainsReads (first ++ second) outcome log log_now
+gained_more done first second log log_mid log_now e g = told_with-more log log_mid log_now first second e g
+gained_more (refused r) first second log log_mid log_now e g = told_with-more log log_mid log_now first second e g
+gained_more store_failed first second log log_mid log_now e g = GrewByPrefix-after first e g
+gained_more sink_failed first second log log_mid log_now e g = GrewByPrefix-after first e g
+gained_more no_memory first second log log_mid log_now e g = GrewByPrefix-after first e g
+gained_more usage first second log log_mid log_now e g = g
+gained_more door_failed first second log log_mid log_now e g = g
+
+-- what is due of a run with these settings, which writes nothing where they are refused
+module _ (due_of : Result Setup Refusal → Due) (built : Ask → Bool) (files : Files) (q : Requested) (with_body : Bool) where
+  run_refused : ((r : Refusal) → due_of (Err r) ≡ ([], Some r)) → (r : Refusal) (outcome : Outcome) (out : Option (List ℕ)) (log log_now : Option (List Read))
+      → outcome ≡ refused_outcome r → AreSettingsRead files q.settings (Err r) log log_now
+      → IsRun (due_of (run_setup files q)) built files q with_body outcome out out log log_now
+  run_refused none r outcome out log log_now e a =
+      let setup : (r ≢ NoMemory → r ≢ StoreFailed → run_setup files q ≡ Err r) = (λ known_memory known_store.
+      ap (λ s. s >>= λ settings. Ok (setup_with files q settings)) (a.answered known_memory known_store))
+      in
+      let request = some_reads built q with_body (run_setup files q) in
+      let all_logged : (r ≢ NoMemory → r ≢ StoreFailed → log_now ≡ told_with log (settings_reads files q.settings ++ request)) = (λ known_memory known_store.
+      a.logged.1 known_memory known_store
+      ∙ ap (told_with log) (sym (append-nil (settings_reads files q.settings)))
+      ∙ ap (λ s. told_with log (settings_reads files q.settings ++ some_reads built q with_body s)) (sym (setup known_memory known_store)))
+      in
+      let gained =
+      gained_refused (due_of (run_setup files q)) (settings_reads files q.settings ++ request) out log log_now r
+      (λ known_memory known_store. ap due_of (setup known_memory known_store) ∙ none r)
+      (GrewByPrefix-more request a.logged.0, all_logged)
+      in
+      subst (λ told. IsRun (due_of (run_setup files q)) built files q with_body told out out log log_now) (sym e)
+      (record {
+        wrote = gained.0;
+        reads = settings_reads files q.settings ++ request;
+        reads_are = record { request = request; made = are_some_reads built files q with_body (run_setup files q); are = refl };
+        logged = gained.1;
+      })
+
+  run_with : (s : Settled) (outcome : Outcome) (out out_now : Option (List ℕ)) (log log_mid log_now : Option (List Read))
+      → AreSettingsRead files q.settings (Ok s) log log_mid
+      → IsWritten (due_of (Ok (setup_with files q s))) built (setup_with files q s) with_body q.path outcome out out_now log_mid log_now
+      → IsRun (due_of (run_setup files q)) built files q with_body outcome out out_now log log_now
+  run_with s outcome out out_now log log_mid log_now a w =
+      let setup : run_setup files q ≡ Ok (setup_with files q s) = ap (λ s. s >>= λ settings. Ok (setup_with files q settings)) a.answered in
+      record {
+        wrote = subst (λ s. GainsDue (due_of s) outcome out out_now) (sym setup) w.wrote;
+        reads = settings_reads files q.settings ++ w.reads;
+        reads_are = record { request = w.reads; made = subst (λ s. AreRequestReads built files q with_body s w.reads) (sym setup) w.reads_are; are = refl };
+        logged = gained_more outcome (settings_reads files q.settings) w.reads log log_mid log_now a.logged w.logged;
+      }
+
+-- ---- the command `get`
 
 flat_refused : (due : Answer) (r : Refusal) → flat_seen due ≡ Err r → due ≡ Err r
 flat_refused (Ok body) r e = absurd cc
 flat_refused (Err other) r e = cc
 
-module _ (built : Ask → Bool) (o : Setup) (path : List ℕ) (out : Option (List ℕ)) (log log_now : Option (List Read)) where
-  abbrev Written : Refusal → Outcome → Type 0
-  Written r outcome = IsFlatAnswer built o path (Err r) log log_now → IsAnswerWritten built o path outcome out out log log_now
-
-  pub refused_written : (r : Refusal) → Written r (refused_outcome r)
-  refused_written =
-      by_refusal Written
-      (λ a. record { wrote = GrewByPrefix-same out out (due_answer (answer built o path)).0 refl; reads = a.reads; reads_are = a.reads_are; logged = a.logged.0 })
-      (λ a. record { wrote = GrewByPrefix-same out out (due_answer (answer built o path)).0 refl; reads = a.reads; reads_are = a.reads_are; logged = a.logged.0 })
-      (λ r known_memory known_store a. record {
-        wrote =
-            subst (λ due. GainsDue (due_answer due) (refused r) out out)
-            (sym (flat_refused (answer built o path) r (a.answered known_memory known_store))) (refl, sym (told_with-nil out));
-        reads = a.reads;
-        reads_are = a.reads_are;
-        logged = a.logged.1 known_memory known_store;
-      })
-
--- ---- a whole run
-
--- the reads that a request may make, whatever was refused before
-abbrev some_reads : (Ask → Bool) → Requested → Result Setup Refusal → List Read
-some_reads built q (Ok o) = path_reads built o [] true [] q.path
-some_reads built q (Err r) = []
-
-are_some_reads : (built : Ask → Bool) (files : Files) (q : Requested) (setup : Result Setup Refusal) → AreRequestReads built files q true setup (some_reads built q setup)
-are_some_reads built files q (Ok o) = record { taken = []; are = refl }
-are_some_reads built files q (Err r) = refl
-
-module _ (built : Ask → Bool) (files : Files) (q : Requested) (out : Option (List ℕ)) (log log_now : Option (List Read)) where
-  abbrev Got : Refusal → Outcome → Type 0
-  Got r outcome = AreSettingsRead files q.settings (Err r) log log_now → IsGet built files q outcome out out log log_now
-
-  -- nothing is written where the settings are refused
-  pub settings_refused : (r : Refusal) → Got r (refused_outcome r)
-  unfolding get_due
-  settings_refused =
-      by_refusal Got
-      (λ a. record {
-        wrote = GrewByPrefix-same out out (get_due built files q).0 refl;
-        reads = settings_reads files q.settings ++ some_reads built q (run_setup files q);
-        reads_are = record { request = some_reads built q (run_setup files q); made = are_some_reads built files q (run_setup files q); are = refl };
-        logged = GrewByPrefix-more (some_reads built q (run_setup files q)) a.logged.0;
-      })
-      (λ a. record {
-        wrote = GrewByPrefix-same out out (get_due built files q).0 refl;
-        reads = settings_reads files q.settings ++ some_reads built q (run_setup files q);
-        reads_are = record { request = some_reads built q (run_setup files q); made = are_some_reads built files q (run_setup files q); are = refl };
-        logged = GrewByPrefix-more (some_reads built q (run_setup files q)) a.logged.0;
-      })
-      (λ r known_memory known_store a.
-      let named : settings_named files q.settings ≡ Err r = a.answered known_memory known_store in
-      let setup : run_setup files q ≡ Err r = ap (λ s. s >>= λ settings. Ok (setup_with files q settings)) named in
-      record {
-        wrote = subst (λ s. GainsDue (due_answer (s >>= λ o. answer built o q.path)) (refused r) out out) (sym setup) (refl, sym (told_with-nil out));
-        reads = settings_reads files q.settings ++ [];
-        reads_are = record { request = []; made = subst (λ s. AreRequestReads built files q true s []) (sym setup) refl; are = refl };
-        logged = a.logged.1 known_memory known_store ∙ ap (told_with log) (sym (append-nil (settings_reads files q.settings)));
-      })
-
--- a request with these settings
-module _ (built : Ask → Bool) (files : Files) (q : Requested) (s : Settled) (outcome : Outcome) (out out_now : Option (List ℕ)) (log log_mid log_now : Option (List Read)) where
-  pub got_with : AreSettingsRead files q.settings (Ok s) log log_mid → IsAnswerWritten built (setup_with files q s) q.path outcome out out_now log_mid log_now
-      → IsGet built files q outcome out out_now log log_now
-  unfolding get_due
-  got_with a w =
-      let setup : run_setup files q ≡ Ok (setup_with files q s) = ap (λ s. s >>= λ settings. Ok (setup_with files q settings)) a.answered in
-      record {
-        wrote = subst (λ s. GainsDue (due_answer (s >>= λ o. answer built o q.path)) outcome out out_now) (sym setup) w.wrote;
-        reads = settings_reads files q.settings ++ w.reads;
-        reads_are = record { request = w.reads; made = subst (λ s. AreRequestReads built files q true s w.reads) (sym setup) w.reads_are; are = refl };
-        logged = gained_more outcome (settings_reads files q.settings) w.reads log log_mid log_now a.logged w.logged;
-      }
-    where
-      gained_more : (outcome : Outcome) (first second : List Read) (log log_mid log_now : Option (List Read)) → log_mid ≡ told_with log first
-          → GainsReads second outcome log_mid log_now → GainsReads (first ++ second) outcome log log_now
-      gained_more done first second log log_mid log_now e g = told_with-more log log_mid log_now first second e g
-      gained_more (refused r) first second log log_mid log_now e g = told_with-more log log_mid log_now first second e g
-      gained_more store_failed first second log log_mid log_now e g = GrewByPrefix-after first e g
-      gained_more sink_failed first second log log_mid log_now e g = GrewByPrefix-after first e g
-      gained_more no_memory first second log log_mid log_now e g = GrewByPrefix-after first e g
-      gained_more usage first second log log_mid log_now e g = g
-      gained_more door_failed first second log log_mid log_now e g = g
-
--- ---- as the calls answer them
-
 pub written_of : (built : Ask → Bool) (o : Setup) (given path : List ℕ) (outcome : Outcome) (r : Refusal) (out : Option (List ℕ)) (log log_now : Option (List Read))
     → given ≡ path → outcome ≡ refused_outcome r → IsFlatAnswer built o given (Err r) log log_now → IsAnswerWritten built o path outcome out out log log_now
 written_of built o given path outcome r out log log_now same e a =
     let b = subst (λ p. IsFlatAnswer built o p (Err r) log log_now) same a in
-    subst (λ due. IsAnswerWritten built o path due out out log log_now) (sym e) (refused_written built o path out log log_now r b)
+    written_refused b.reads r outcome out log log_now e
+    (λ known_memory known_store. ap due_answer (flat_refused (answer built o path) r (b.answered known_memory known_store))) b.reads_are b.logged
 
-pub got_of : (built : Ask → Bool) (files : Files) (q : Requested) (outcome : Outcome) (r : Refusal) (out : Option (List ℕ)) (log log_now : Option (List Read))
-    → outcome ≡ refused_outcome r → AreSettingsRead files q.settings (Err r) log log_now → IsGet built files q outcome out out log log_now
-got_of built files q outcome r out log log_now e a =
-    subst (λ due. IsGet built files q due out out log log_now) (sym e) (settings_refused built files q out log log_now r a)
+module _ (built : Ask → Bool) (files : Files) (q : Requested) where
+  pub got_of : (outcome : Outcome) (r : Refusal) (out : Option (List ℕ)) (log log_now : Option (List Read))
+      → outcome ≡ refused_outcome r → AreSettingsRead files q.settings (Err r) log log_now → IsGet built files q outcome out out log log_now
+  unfolding get_due
+  got_of outcome r out log log_now e a =
+      run_refused (λ s. due_answer (s >>= λ o. answer built o q.path)) built files q true (λ r. refl) r outcome out log log_now e a
 
--- with the content of the store as it stands between the calls
-pub got_with_told : (built : Ask → Bool) (content content_mid : Option Files) (q : Requested) (s : Settled) (outcome : Outcome) (out out_now : Option (List ℕ))
-    (log log_mid log_now : Option (List Read)) → content_mid ≡ content
-    → IfSome content (λ files. AreSettingsRead files q.settings (Ok s) log log_mid)
-    → IfSome content_mid (λ files. IsAnswerWritten built (setup_with files q s) q.path outcome out out_now log_mid log_now)
-    → IfSome content (λ files. IsGet built files q outcome out out_now log log_now)
-got_with_told built None content_mid q s outcome out out_now log log_mid log_now e a w = tt
-got_with_told built (Some files) content_mid q s outcome out out_now log log_mid log_now e a w =
-    let P : Option Files → Type 0 = λ content. IfSome content (λ files. IsAnswerWritten built (setup_with files q s) q.path outcome out out_now log_mid log_now) in
-    got_with built files q s outcome out out_now log log_mid log_now a (subst P e w)
+  pub got_with : (s : Settled) (outcome : Outcome) (out out_now : Option (List ℕ)) (log log_mid log_now : Option (List Read))
+      → AreSettingsRead files q.settings (Ok s) log log_mid → IsAnswerWritten built (setup_with files q s) q.path outcome out out_now log_mid log_now
+      → IsGet built files q outcome out out_now log log_now
+  unfolding get_due
+  got_with s outcome out out_now log log_mid log_now a w =
+      run_with (λ s. due_answer (s >>= λ o. answer built o q.path)) built files q true s outcome out out_now log log_mid log_now a w
 
--- what `get` came to, with the line that tells it
-pub got_and_told : (built : Ask → Bool) (content : Option Files) (spelled : Option Command) (outcome : Outcome) (status : ℕ) (out out_now : Option (List ℕ))
-    (log log_now : Option (List Read)) (err err_now : Option (List ℕ)) (faults faults_now : ℕ) → status ≡ outcome_status outcome
-    → GainsLine outcome err err_now faults faults_now
-    → IfSome content (λ files. (q : Requested) → spelled ≡ Some (get q) → IsGet built files q outcome out out_now log log_now)
-    → IfSome content (λ files. (q : Requested) → spelled ≡ Some (get q) → GetOutcome built files q status out out_now log log_now err err_now faults faults_now)
-got_and_told built None spelled outcome status out out_now log log_now err err_now faults faults_now e line got = tt
-got_and_told built (Some files) spelled outcome status out out_now log log_now err err_now faults faults_now e line got = λ q is.
-    let g = got q is in
-    record { outcome = outcome; status_is = e; wrote = g.wrote; reads = g.reads; reads_are = g.reads_are; logged = g.logged; told = line }
+-- ---- the command `plan`
+
+-- all reads were made before the output was written
+gained_all : (due : Due) (outcome : Outcome) (out out_now : Option (List ℕ)) (reads : List Read) (log log_now : Option (List Read))
+    → GainsDue due outcome out out_now → log_now ≡ told_with log reads → GainsReads reads outcome log log_now
+gained_all due done out out_now reads log log_now wrote e = e
+gained_all due (refused r) out out_now reads log log_now wrote e = e
+gained_all due store_failed out out_now reads log log_now wrote e = GrewByPrefix-whole log log_now reads e
+gained_all due sink_failed out out_now reads log log_now wrote e = GrewByPrefix-whole log log_now reads e
+gained_all due no_memory out out_now reads log log_now wrote e = GrewByPrefix-whole log log_now reads e
+gained_all due usage out out_now reads log log_now wrote e = wrote
+gained_all due door_failed out out_now reads log log_now wrote e = wrote
+
+module _ (o : Setup) (given path : List ℕ) (outcome : Outcome) (out : Option (List ℕ)) (log log_now : Option (List Read)) where
+  pub plan_refused : (r : Refusal) → given ≡ path → outcome ≡ refused_outcome r → AreListed o given (Err r) log log_now
+      → IsPlanWritten every_path o path outcome out out log log_now
+  plan_refused r same e a =
+      let b = subst (λ p. AreListed o p (Err r) log log_now) same a in
+      written_refused b.reads r outcome out log log_now e (λ known_memory known_store. ap due_rows (b.answered known_memory known_store)) b.reads_are b.logged
+
+  pub plan_written : (rows shown : List Listed) (out_now : Option (List ℕ)) → given ≡ path → shown ≡ rows
+      → GainsDue (plan_text (map listed_view shown), None) outcome out out_now
+      → AreListed o given (Ok rows) log log_now → IsPlanWritten every_path o path outcome out out_now log log_now
+  plan_written rows shown out_now same all wrote a =
+      let b = subst (λ p. AreListed o p (Ok rows) log log_now) same a in
+      let due : due_rows (path_rows every_path o path) ≡ (plan_text (map listed_view shown), None) =
+      ap due_rows b.answered ∙ ap (λ rows. (plan_text (map listed_view rows), None)) (sym all)
+      in
+      record {
+        wrote = subst (λ due. GainsDue due outcome out out_now) (sym due) wrote;
+        reads = b.reads;
+        reads_are = b.reads_are;
+        logged = gained_all (plan_text (map listed_view shown), None) outcome out out_now b.reads log log_now wrote b.logged;
+      }
+
+module _ (built : Ask → Bool) (files : Files) (q : Requested) where
+  pub planned_of : (outcome : Outcome) (r : Refusal) (out : Option (List ℕ)) (log log_now : Option (List Read))
+      → outcome ≡ refused_outcome r → AreSettingsRead files q.settings (Err r) log log_now → IsPlan built files q outcome out out log log_now
+  unfolding plan_due
+  planned_of outcome r out log log_now e a =
+      run_refused (λ s. due_rows (s >>= λ o. path_rows built o q.path)) (for_rows built) files q false (λ r. refl) r outcome out log log_now e a
+
+  pub planned_with : (s : Settled) (outcome : Outcome) (out out_now : Option (List ℕ)) (log log_mid log_now : Option (List Read))
+      → AreSettingsRead files q.settings (Ok s) log log_mid → IsPlanWritten built (setup_with files q s) q.path outcome out out_now log_mid log_now
+      → IsPlan built files q outcome out out_now log log_now
+  unfolding plan_due
+  planned_with s outcome out out_now log log_mid log_now a w =
+      run_with (λ s. due_rows (s >>= λ o. path_rows built o q.path)) (for_rows built) files q false s outcome out out_now log log_mid log_now a w

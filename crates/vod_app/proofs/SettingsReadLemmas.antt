@@ -1,5 +1,5 @@
 -- The settings of a run: what is answered and read in each case.
-use Rattle.std.proofs.Common.{◌≡◌, ◌≢◌, ◌+◌, ◌-◌, zero, suc, IfSome, ◌<◌, ◌≤◌, ℕ, Bool, true, false, List, [], ◌∷◌, ◌++◌, length, take, drop, Option, Some, None, Result, Ok, Err, refl, sym, ap, ◌∙◌, arith, subst}
+use Rattle.std.proofs.Common.{◌≡◌, ◌≢◌, ◌+◌, ◌-◌, zero, suc, IfSome, ◌<◌, ◌≤◌, ℕ, Bool, true, false, List, [], ◌∷◌, length, take, Option, Some, None, Result, Ok, Err, refl, sym, ap, ◌∙◌, arith, subst}
 use Rattle.std.specs.Prelude.{bytes_eq, codes, nat_le, ok_or, unwrap_or, option_and_then, option_map, if◌then◌else◌}
 use Rattle.std.specs.Option.{option_map_or}
 use Rattle.std.proofs.lemmas.Bool.{lt-leb, le-leb}
@@ -8,7 +8,7 @@ use Rattle.std.proofs.lemmas.Slice.Eq.{bytes_eq-Decides}
 use Rattle.vod_types.specs.declared.refusal.Refusal.{Refusal}
 use Rattle.vod_types.specs.declared.refusal.Refusal.TheVariants.{NoMemory, StoreFailed, NoFile, BadSettings}
 use Rattle.vod_types.specs.Ranges.{range_reads}
-use Rattle.vod_types.proofs.RangesLemmas.{range_reads-last, range_reads-none, range_reads-step}
+use Rattle.vod_types.proofs.RangesLemmas.{range_reads-last}
 use Rattle.vod_types.specs.Results.{◌>>=◌, Answers}
 use Rattle.vod_types.specs.Settled.{Settled}
 use Rattle.vod_types.specs.Settings.{default_settings, settings_of, policy_of_text}
@@ -18,8 +18,8 @@ use Rattle.vod_types.specs.Options.{passing}
 use Rattle.serde_json.specs.Find.{as_bool, as_str, get}
 use Rattle.vod_source.specs.Ranges.{file_reads, of_file}
 use Rattle.vod_source.proofs.RangeLemmas.{file_reads-zero}
-use Rattle.vod_source.specs.Stored.{Files, Read, file_named, size_of, bytes_of, bytes_at, log_after}
-use Rattle.vod_source.specs.Told.{told_with, GrewByPrefix}
+use Rattle.vod_source.specs.Stored.{Files, Read, file_named, size_of, bytes_at, log_after}
+use Rattle.vod_source.specs.Told.{told_with}
 use Rattle.vod_source.proofs.ToldLemmas.{told_with-nil, GrewByPrefix-same, GrewByPrefix-whole}
 use Rattle.origin_model.specs.Outcomes.{settings_named, settings_reads, settings_file_reads}
 use Rattle.mp4_flat.specs.Calls.{AnswersUnlessFailed, LogsReads}
@@ -210,6 +210,10 @@ lent result x log now read e h = h ∙ ap (log_after log read) e
 pub told_with_both : {A : Type 0} (told : Option A) (P Q R : A → Type 0) → IfSome told P → IfSome told Q → ((x : A) → P x → Q x → R x) → IfSome told R
 told_with_both None P Q R h i all = tt
 told_with_both (Some x) P Q R h i all = all x h i
+
+-- the same where one of them was told after a call that keeps what is told
+pub told_between : {A : Type 0} {told middle : Option A} (P Q R : A → Type 0) → middle ≡ told → IfSome told P → IfSome middle Q → ((x : A) → P x → Q x → R x) → IfSome told R
+told_between {told = told} P Q R e h i all = told_with_both told P Q R h (subst (λ t. IfSome t Q) e i) all
 
 pub told_all : {A : Type 0} (told : Option A) (P : A → Type 0) → ((x : A) → P x) → IfSome told P
 told_all None P all = tt

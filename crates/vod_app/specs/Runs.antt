@@ -1,14 +1,14 @@
 -- How a run ends, what it has written and what it has read; this project's own.
-use Rattle.std.specs.Prelude.{◌≡◌, ℕ, Bool, true, List, [], Option, Some, None, Result}
+use Rattle.std.specs.Prelude.{◌≡◌, ℕ, Bool, true, false, List, [], Option, Some, None, Result}
 use Rattle.vod_types.specs.declared.paths.Ask.{Ask}
 use Rattle.vod_types.specs.declared.refusal.Refusal.{Refusal}
 use Rattle.vod_types.specs.declared.refusal.Refusal.TheVariants as refusals
 use Rattle.vod_types.specs.Settled.{Settled}
 use Rattle.list_model.specs.Command.{Requested, Outcome, done, usage, refused, store_failed, sink_failed, no_memory, outcome_status}
 use Rattle.vod_source.specs.Stored.{Files, Read}
-use Rattle.origin_model.specs.Answers.{answer}
-use Rattle.origin_model.specs.Outcomes.{AreRunReads, GainsDue, GainsLine, GainsReads, due_answer, get_due, settings_named, settings_reads}
-use Rattle.origin_model.specs.Reads.{AreReads}
+use Rattle.origin_model.specs.Answers.{answer, path_rows}
+use Rattle.origin_model.specs.Outcomes.{AreRunReads, Due, GainsDue, GainsLine, GainsReads, due_answer, due_rows, get_due, plan_due, settings_named, settings_reads}
+use Rattle.origin_model.specs.Reads.{AreReads, for_rows}
 use Rattle.origin_model.specs.Requests.{Setup}
 use Rattle.mp4_flat.specs.Calls.{AnswersUnlessFailed, LogsReads}
 use Rattle.vod_app.specs.declared.ends.End.{End}
@@ -39,19 +39,47 @@ abbrev pub cut_refusal : Option (ℕ × ℕ) → Option Refusal
 cut_refusal None = None
 cut_refusal (Some cut) = Some (refusals.BadNal cut.0 cut.1)
 
--- what the answer of a path wrote, and what was read for it, by this outcome
-pub record IsAnswerWritten (built : Ask → Bool) (o : Setup) (path : List ℕ) (outcome : Outcome) (out out_now : Option (List ℕ)) (log log_now : Option (List Read)) : Type 0 where
-  pub wrote : GainsDue (due_answer (answer built o path)) outcome out out_now
+-- What was written of what is due for a path, and what was read for it, by this outcome.
+pub record IsWritten (due : Due) (built : Ask → Bool) (o : Setup) (with_body : Bool) (path : List ℕ) (outcome : Outcome) (out out_now : Option (List ℕ)) (log log_now : Option (List Read)) : Type 0 where
+  pub wrote : GainsDue due outcome out out_now
   pub reads : List Read
-  pub reads_are : AreReads built o [] true path reads
+  pub reads_are : AreReads built o [] with_body path reads
+  pub logged : GainsReads reads outcome log log_now
+
+-- of the answer of a path
+abbrev pub IsAnswerWritten : (Ask → Bool) → Setup → List ℕ → Outcome → Option (List ℕ) → Option (List ℕ) → Option (List Read) → Option (List Read) → Type 0
+IsAnswerWritten built o path outcome out out_now log log_now = IsWritten (due_answer (answer built o path)) built o true path outcome out out_now log log_now
+
+-- of the listed rows of a path
+abbrev pub IsPlanWritten : (Ask → Bool) → Setup → List ℕ → Outcome → Option (List ℕ) → Option (List ℕ) → Option (List Read) → Option (List Read) → Type 0
+IsPlanWritten built o path outcome out out_now log log_now = IsWritten (due_rows (path_rows built o path)) (for_rows built) o false path outcome out out_now log log_now
+
+-- What a run wrote of what is due, and what it read for the settings and the request, by this outcome.
+pub record IsRun (due : Due) (built : Ask → Bool) (files : Files) (q : Requested) (with_body : Bool) (outcome : Outcome) (out out_now : Option (List ℕ)) (log log_now : Option (List Read)) : Type 0 where
+  pub wrote : GainsDue due outcome out out_now
+  pub reads : List Read
+  pub reads_are : AreRunReads built files q with_body reads
   pub logged : GainsReads reads outcome log log_now
 
 -- what `get` wrote and read by this outcome
-pub record IsGet (built : Ask → Bool) (files : Files) (q : Requested) (o : Outcome) (out out_now : Option (List ℕ)) (log log_now : Option (List Read)) : Type 0 where
-  pub wrote : GainsDue (get_due built files q) o out out_now
+abbrev pub IsGet : (Ask → Bool) → Files → Requested → Outcome → Option (List ℕ) → Option (List ℕ) → Option (List Read) → Option (List Read) → Type 0
+IsGet built files q outcome out out_now log log_now = IsRun (get_due built files q) built files q true outcome out out_now log log_now
+
+-- what `plan` wrote and read by this outcome
+abbrev pub IsPlan : (Ask → Bool) → Files → Requested → Outcome → Option (List ℕ) → Option (List ℕ) → Option (List Read) → Option (List Read) → Type 0
+IsPlan built files q outcome out out_now log log_now = IsRun (plan_due built files q) (for_rows built) files q false outcome out out_now log log_now
+
+-- how `plan` ends, what it wrote and which reads it made
+pub record PlanOutcome
+    (built : Ask → Bool) (files : Files) (q : Requested) (status : ℕ) (out out_now : Option (List ℕ)) (log log_now : Option (List Read))
+    (err err_now : Option (List ℕ)) (err_faults err_faults_now : ℕ) : Type 0 where
+  pub outcome : Outcome
+  pub status_is : status ≡ outcome_status outcome
+  pub wrote : GainsDue (plan_due built files q) outcome out out_now
   pub reads : List Read
-  pub reads_are : AreRunReads built files q true reads
-  pub logged : GainsReads reads o log log_now
+  pub reads_are : AreRunReads (for_rows built) files q false reads
+  pub logged : GainsReads reads outcome log log_now
+  pub told : GainsLine outcome err err_now err_faults err_faults_now
 
 -- a run tells its outcome by its status and by a line
 pub record TellsOutcome (status : ℕ) (err err_now : Option (List ℕ)) (faults faults_now : ℕ) : Type 0 where

@@ -2,28 +2,37 @@
 #![tactic(auto)]
 
 ghost use Rattle.std.specs.Prelude.{◌≡◌, ◌↔◌, ◌≤◌, ◌<◌, IfSome, None, Some, map, string_bytes};
-ghost use Rattle.list_model.specs.Command.{Requested, get as get_of, sink_failed, store_failed, usage};
+ghost use Rattle.list_model.specs.Command.{Requested, get as get_of, plan as plan_of, sink_failed, store_failed, usage};
 ghost use Rattle.vod_source.specs.Causes.{Rose};
 ghost use Rattle.origin_model.specs.Outcomes.{GetOutcome, GainsLine};
 ghost use Rattle.mp4_flat.specs.Built.{built_paths};
+ghost use Rattle.mp4_flat.specs.Listings.{every_path};
 ghost use Rattle.vod_app.specs.Commands.{built_command};
-ghost use Rattle.vod_app.specs.Runs.{IsGet, TellsOutcome, outcome_of};
+ghost use Rattle.vod_app.specs.Runs.{IsGet, IsPlan, PlanOutcome, TellsOutcome, outcome_of};
 
 mod ends;
 mod lines;
+#[cfg(test)]
+mod plan_tests;
+mod plans;
 mod requests;
+#[cfg(test)]
+mod segment_tests;
 mod settings;
+#[cfg(test)]
+mod test_films;
 #[cfg(test)]
 mod tests;
 mod words;
 
 use ends::End;
 use lines::tell;
+use plans::plan;
 use requests::get;
 use std::alloc::Global;
 use std::string::String;
 use vod_source::{Door, Sink, Store};
-use words::Request;
+use words::Command;
 
 /// How a run ended: the status of the program, and the store that it was given.
 #[derive(Debug, Drop)]
@@ -32,7 +41,15 @@ pub struct Ended<S> {
     pub store: S,
 }
 
-/// Runs the command that the words spell: `get ROOT SETTINGS PATH` writes the answer of PATH to `out`.
+/// Runs the command that the words spell.
+///
+/// | words | what is written to `out` |
+/// |---|---|
+/// | `get ROOT SETTINGS PATH` | the answer of PATH |
+/// | `plan ROOT SETTINGS PATH` | for each segment of the media playlist of PATH its number, start, length, video and audio samples |
+///
+/// `plan` answers the path of every media playlist, also where `get` refuses it as a form that isn't built. Times are in
+/// 1/90000 s, and a line has one space between its numbers.
 ///
 /// | status | where | line on `err` |
 /// |---|---|---|
@@ -60,6 +77,11 @@ pub fn run<S: Store, D: Door, K: Sink, E: Sink>(
     // What `get` writes and reads, wherever the store tells its content.
     ensures get { IfSome (S.content store) (λ files. (q : Requested) → built_command (map string_bytes words.now) ≡ Some (get_of q) →
         GetOutcome built_paths files q result.status (K.written out.old) (K.written out.new) (S.log store) (S.log result.store)
+        (E.written err.old) (E.written err.new) (E.faults err.old) (E.faults err.new)) }
+
+    // The same of `plan`.
+    ensures plan { IfSome (S.content store) (λ files. (q : Requested) → built_command (map string_bytes words.now) ≡ Some (plan_of q) →
+        PlanOutcome every_path files q result.status (K.written out.old) (K.written out.new) (S.log store) (S.log result.store)
         (E.written err.old) (E.written err.new) (E.faults err.old) (E.faults err.new)) }
 
     // Every status has its line, whether the store tells its content or not.
@@ -94,6 +116,8 @@ fn run_command<S: Store, K: Sink>(
     ensures unread { outcome_of result ≡ usage → S.log store.new ≡ S.log store.old }
     ensures got { IfSome (S.content store.old) (λ files. (q : Requested) → built_command (map string_bytes words.now) ≡ Some (get_of q) →
         IsGet built_paths files q (outcome_of result) (K.written out.old) (K.written out.new) (S.log store.old) (S.log store.new)) }
+    ensures planned { IfSome (S.content store.old) (λ files. (q : Requested) → built_command (map string_bytes words.now) ≡ Some (plan_of q) →
+        IsPlan every_path files q (outcome_of result) (K.written out.old) (K.written out.new) (S.log store.old) (S.log store.new)) }
     ensures content { S.content store.new ≡ S.content store.old }
     ensures kept { K.kept out.new ≡ K.kept out.old }
     ensures store_later { S.faults store.old ≤ S.faults store.new }
@@ -101,8 +125,9 @@ fn run_command<S: Store, K: Sink>(
     ensures store_failed { outcome_of result ≡ store_failed → Rose (S.faults store.old) (S.faults store.new) }
     ensures sink_failed { outcome_of result ≡ sink_failed → Rose (K.faults out.old) (K.faults out.new) }
 {
-    match Request::read(words) {
-        Some(request) => get(alloc, request, store, out),
+    match Command::read(words) {
+        Some(Command::Get(request)) => get(alloc, request, store, out),
+        Some(Command::Plan(request)) => plan(alloc, request, store, out),
         None => End::Usage,
     }
 }

@@ -1,12 +1,13 @@
 //! Runs over files in memory: their status, and the line that tells their end.
 
 use super::*;
+use crate::plans::put_plan;
 use crate::requests::put_body;
-use mp4_flat::FlatBody;
+use mp4_flat::{FlatBody, Listed};
 use std::alloc::Global;
 use std::test::Fail;
 use vod_source::{MemDoor, MemSink, MemStore};
-use vod_types::Name;
+use vod_types::{Name, SegmentRow};
 
 // A run: its words, its settings file `s.json`, and the call on the store that fails; and what is due.
 #[derive(Drop)]
@@ -23,6 +24,9 @@ const USAGE: &str =
 
 // A fragment's path, of the file `a.mp4`.
 const PATH: &str = "/local/dash/a.mp4/fragment-1-a1.m4s";
+
+// The path of a media playlist of that file.
+const LIST: &str = "/local/hls/a.mp4/index-v1-a1.m3u8";
 
 fn words(
     words: &'static [&'static str],
@@ -65,6 +69,7 @@ fn is_due(alloc: Global, case: &Case) -> Result<bool, Fail> {
 fn each_end_has_its_status_and_line(rt: HostRuntime) -> Result<(), Fail> {
     let alloc = rt.alloc();
     let form = "refused 14 Unsupported\n";
+    let absent = "refused 20 NoFile\n";
     let cases = [
         words(&["get"], "", 1, USAGE),
         words(&[], "", 1, USAGE),
@@ -73,9 +78,14 @@ fn each_end_has_its_status_and_line(rt: HostRuntime) -> Result<(), Fail> {
         words(&["get", "", "-", PATH], "", 1, USAGE),
         words(&["get", "/r", "-", PATH, PATH], "", 1, USAGE),
         words(&["fetch", "/r", "-", PATH], "", 1, USAGE),
-        words(&["plan", "/r", "-", PATH], "", 1, USAGE),
+        words(&["plan", "/r", "-"], "", 1, USAGE),
+        words(&["plan", "/r", "", LIST], "", 1, USAGE),
+        words(&["Plan", "/r", "-", LIST], "", 1, USAGE),
+        words(&["pack", "/r", "-", LIST], "", 1, USAGE),
         words(&["rehearse", "1"], "", 1, USAGE),
-        words(&["get", "/r", "-", PATH], "", 2, form),
+        words(&["get", "/r", "-", LIST], "", 2, form),
+        words(&["get", "/r", "-", PATH], "", 2, absent),
+        words(&["plan", "/r", "-", LIST], "", 2, absent),
         words(
             &["get", "/r", "-", "/local/hls/a.mp4/seg-01-f1-a1.ts"],
             "",
@@ -89,7 +99,7 @@ fn each_end_has_its_status_and_line(rt: HostRuntime) -> Result<(), Fail> {
             "refused 4 BadPath\n",
         ),
         words(
-            &["get", "/r", "s.json", PATH],
+            &["get", "/r", "s.json", LIST],
             "{\"segment_ms\":2000,\"policy\":\"last_long\"}",
             2,
             form,
@@ -106,12 +116,15 @@ fn each_end_has_its_status_and_line(rt: HostRuntime) -> Result<(), Fail> {
             2,
             "refused 6 BadSettings\n",
         ),
+        words(&["get", "/r", "absent.json", PATH], "{}", 2, absent),
+        words(&["plan", "/r", "-", PATH], "", 2, "refused 4 BadPath\n"),
         words(
-            &["get", "/r", "absent.json", PATH],
-            "{}",
+            &["plan", "/r", "s.json", LIST],
+            "",
             2,
-            "refused 20 NoFile\n",
+            "refused 6 BadSettings\n",
         ),
+        words(&["plan", "/r", "absent.json", LIST], "{}", 2, absent),
     ];
     for case in &cases {
         assert!(rt; is_due(alloc, case)?, "at {:?}", case.words);
@@ -128,7 +141,7 @@ fn store_that_fails_ends_the_run(rt: HostRuntime) -> Result<(), Fail> {
         (3, 2, "refused 14 Unsupported\n"),
     ] {
         let case = Case {
-            words: &["get", "/r", "s.json", PATH],
+            words: &["get", "/r", "s.json", LIST],
             settings: "{}",
             fails,
             status,
@@ -172,6 +185,39 @@ fn body_is_written_whole_or_ends_the_run(rt: HostRuntime) -> Result<(), Fail> {
         assert_eq!(rt; end.status(), status);
         assert_eq!(rt; err.written(), line.as_bytes());
         assert_eq!(rt; out.written().len(), if status == 4 { 0 } else { 3 });
+    }
+    Ok(())
+}
+
+#[test]
+fn lines_are_written_whole_or_end_the_run(rt: HostRuntime) -> Result<(), Fail> {
+    let alloc = rt.alloc();
+    let listed = |number, start, length, video, audio| Listed {
+        row: SegmentRow {
+            number,
+            start,
+            length,
+            first_in_part: false,
+            part: 1,
+        },
+        video,
+        audio,
+    };
+    let rows = [
+        listed(1, 0, 907200, 252, 432),
+        listed(4294967295, -45, 0, 0, 18446744073709551615),
+    ];
+    let lines = "1 0 907200 252 432\n4294967295 -45 0 0 18446744073709551615\n";
+    for (count, room, status, written) in [
+        (2, 100, 0, lines),
+        (2, 58, 4, ""),
+        (1, 19, 0, &lines[..19]),
+        (0, 0, 0, ""),
+    ] {
+        let mut out = MemSink::new(alloc, room, Vec::new(alloc))?;
+        let end = put_plan(alloc, &rows[..count], &mut out);
+        assert_eq!(rt; end.status(), status);
+        assert_eq!(rt; out.written(), written.as_bytes());
     }
     Ok(())
 }

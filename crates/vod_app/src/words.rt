@@ -1,7 +1,6 @@
 //! The words of the command line.
 
 ghost use Rattle.std.specs.Prelude.{◌≡◌, ◌∷◌, [], MatchOption, None, Some, map, string_bytes};
-ghost use Rattle.list_model.specs.Command.{get};
 
 use std::string::String;
 
@@ -13,42 +12,54 @@ pub struct Request<'a> {
     pub path: &'a str,
 }
 
-impl<'a> Request<'a> {
-    ghost use Rattle.vod_app.specs.Commands.{built_command, requested};
+/// A command that is built.
+#[derive(Clone, Copy, Debug)]
+pub enum Command<'a> {
+    /// Writes the answer of a path.
+    Get(Request<'a>),
+    /// Writes the listed segments of a media playlist's path.
+    Plan(Request<'a>),
+}
 
-    /// Reads `get ROOT SETTINGS PATH`, none of whose words is empty; `None` where the words are of no form that is built.
-    pub fn read(words: &'a [String]) -> Option<Request<'a>>
+impl<'a> Command<'a> {
+    ghost use Rattle.vod_app.specs.Commands.{built_command, spelled};
+
+    /// Reads `get ROOT SETTINGS PATH` or `plan ROOT SETTINGS PATH`, none of whose words is empty; `None` where the words are
+    /// of no form that is built.
+    pub fn read(words: &'a [String]) -> Option<Command<'a>>
         ensures { MatchOption result
             (built_command (map string_bytes words.now) ≡ None)
-            (λ request. built_command (map string_bytes words.now) ≡ Some (get (requested request))) }
+            (λ command. built_command (map string_bytes words.now) ≡ Some (spelled command)) }
     {
         if words.len() != 4 {
             return None;
         }
-        Request::of_form(&words[0], &words[1], &words[2], &words[3])
+        Command::of_form(&words[0], &words[1], &words[2], &words[3])
     }
 
-    // The request of four words.
+    // The command of four words.
     fn of_form(
         form: &'a str,
         root: &'a str,
         settings: &'a str,
         path: &'a str,
-    ) -> Option<Request<'a>>
+    ) -> Option<Command<'a>>
         ensures { MatchOption result
             (built_command (form.now ∷ root.now ∷ settings.now ∷ path.now ∷ []) ≡ None)
-            (λ request. built_command (form.now ∷ root.now ∷ settings.now ∷ path.now ∷ []) ≡ Some (get (requested request))) }
+            (λ command. built_command (form.now ∷ root.now ∷ settings.now ∷ path.now ∷ []) ≡ Some (spelled command)) }
     {
-        if form != "get" {
-            return None;
-        }
         if root.is_empty() || settings.is_empty() || path.is_empty() {
             return None;
         }
-        Some(Request {
+        let request = Request {
             root,
             settings,
             path,
-        })
+        };
+        match form {
+            "get" => Some(Command::Get(request)),
+            "plan" => Some(Command::Plan(request)),
+            _ => None,
+        }
     }
 }

@@ -1,4 +1,4 @@
-use Rattle.std.proofs.Common.{◌≡◌, ◌≤◌, ℕ, List, map, take, Bor}
+use Rattle.std.proofs.Common.{◌≡◌, ◌≤◌, map, take}
 use Rattle.std.specs.List.{concat}
 use Rattle.vod_source.specs.Told.{told_with}
 use Rattle.vod_app.proofs.lines.put_all.Given as goal

@@ -1,8 +1,6 @@
-use Rattle.std.proofs.Common.{◌≡◌}
-use Rattle.mp4_flat.specs.Built.{built_paths}
 use Rattle.vod_app.specs.Commands.{requested}
-use Rattle.vod_app.proofs.RunLemmas.{got_of, got_with_told}
-use Rattle.vod_app.proofs.SettingsReadLemmas.{told_with_all}
+use Rattle.vod_app.proofs.RunLemmas.{got_of, got_with}
+use Rattle.vod_app.proofs.SettingsReadLemmas.{told_between, told_with_all}
 use Rattle.vod_app.proofs.requests.get.Goals as goal
 
 pub returns-in-Err-clause-got : goal.returns-in-Err-clause-got
@@ -12,5 +10,5 @@ returns-in-Err-clause-got g c =
 
 pub returns-in-Ok-clause-got : goal.returns-in-Ok-clause-got
 returns-in-Ok-clause-got g c =
-    got_with_told built_paths (g.S.Store.content c.args.store.now) _ (requested c.args.request) c.in-Ok.settings _ _ _ _ _ _ c.in-Ok.ensures.content
-    c.in-Ok.ensures.told c.get_with.ensures.got
+    told_between _ _ _ c.in-Ok.ensures.content c.in-Ok.ensures.told c.get_with.ensures.got
+    (λ files a w. got_with _ files (requested c.args.request) c.in-Ok.settings _ _ _ _ _ _ a w)

@@ -1,4 +1,3 @@
-use Rattle.std.proofs.Common.{◌≡◌}
 use Rattle.vod_app.proofs.RunLemmas.{written_of}
 use Rattle.vod_app.proofs.SettingsReadLemmas.{told_with_all}
 use Rattle.vod_app.proofs.requests.get_with.Goals as goal

@@ -1,5 +1,4 @@
-use Rattle.std.proofs.Common.{◌≡◌, None, Ok, Option, ap, sym, subst, ◌∙◌}
-use Rattle.vod_source.specs.Stored.{size_of}
+use Rattle.std.proofs.Common.{Ok, sym, subst, ◌∙◌}
 use Rattle.vod_app.specs.Runs.{AreSettingsRead}
 use Rattle.vod_app.proofs.SettingsReadLemmas.{default_read, absent_read, is_default, other_than_default, told_all, told_with_all}
 use Rattle.vod_app.proofs.settings.read_named.Goals as goal

@@ -1,7 +1,7 @@
-use Rattle.std.proofs.Common.{◌≡◌, ◌≢◌, ◌∙◌, sym, length, map, string_bytes, Global}
+use Rattle.std.proofs.Common.{◌∙◌, sym, map, string_bytes, Global}
 use Rattle.std.proofs.lemmas.List.{length-map}
 use Rattle.vod_app.proofs.CommandLemmas.{other_number}
-use Rattle.vod_app.proofs.words.Request.read.Goals as goal
+use Rattle.vod_app.proofs.words.Command.read.Goals as goal
 
 pub returns-then-words-ne4 : goal.returns-then-words-ne4
 returns-then-words-ne4 c =

@@ -1,0 +1,329 @@
+//! Films in memory, and runs over them.
+
+use super::*;
+use std::alloc::Global;
+use std::test::Fail;
+use vod_gen::{MovieSpec, TrackSpec, aac_entry, avc_entry, build};
+use vod_source::{MemDoor, MemStore, VecSink};
+use vod_types::{Kind, Name};
+
+/// Ticks of a second, ticks of a sample, how many samples, the number of the first, and the distance of sync samples, or 0
+/// where all are.
+#[derive(Clone, Copy)]
+pub(crate) struct Shape {
+    timescale: u32,
+    delta: u32,
+    count: u32,
+    first: u32,
+    key: u32,
+}
+
+/// Audio at 48000, of so many samples that are numbered from `first` on.
+pub(crate) fn aac(count: u32, first: u32) -> Shape {
+    Shape {
+        timescale: 48000,
+        delta: 1024,
+        count,
+        first,
+        key: 0,
+    }
+}
+
+/// 25 pictures a second, numbered from `first` on, of which each `key`th is a sync sample.
+pub(crate) fn avc(count: u32, first: u32, key: u32) -> Shape {
+    Shape {
+        timescale: 25,
+        delta: 1,
+        count,
+        first,
+        key,
+    }
+}
+
+/// The sample entry of a track of this kind.
+pub(crate) fn entry(alloc: Global, kind: Kind) -> Result<Vec<u8>, Fail> {
+    match kind {
+        Kind::Video => Ok(avc_entry(alloc)?),
+        Kind::Audio => Ok(Vec::from_array(alloc, aac_entry())?),
+    }
+}
+
+// The numbers of the sync samples.
+fn keys(alloc: Global, shape: Shape) -> Result<Option<Vec<u32>>, Fail> {
+    if shape.key == 0 {
+        return Ok(None);
+    }
+    let mut keys = Vec::new(alloc);
+    for i in 0..shape.count {
+        if i.checked_rem(shape.key) == Some(0) {
+            keys.push(i.wrapping_add(1))?;
+        }
+    }
+    Ok(Some(keys))
+}
+
+/// A track whose samples are of 8 bytes: a length of 4, and the sample's number.
+pub(crate) fn track(alloc: Global, kind: Kind, shape: Shape) -> Result<TrackSpec, Fail> {
+    let mut samples = Vec::new(alloc);
+    for i in 0..shape.count {
+        let mut sample = Vec::from_array(alloc, [0, 0, 0, 4])?;
+        sample.extend_from_slice(shape.first.wrapping_add(i).to_be_bytes().as_slice())?;
+        samples.push(sample)?;
+    }
+    Ok(TrackSpec {
+        kind,
+        timescale: shape.timescale,
+        stts: vec![in alloc; (shape.count, shape.delta)]?,
+        ctts: None,
+        stss: keys(alloc, shape)?,
+        samples,
+        entry: entry(alloc, kind)?,
+    })
+}
+
+/// The file of these tracks.
+pub(crate) fn film(alloc: Global, tracks: Vec<TrackSpec>) -> Result<Vec<u8>, Fail> {
+    Ok(build(alloc, &MovieSpec { tracks })?)
+}
+
+// A film of one track.
+fn film_of(alloc: Global, kind: Kind, shape: Shape) -> Result<Vec<u8>, Fail> {
+    film(alloc, vec![in alloc; track(alloc, kind, shape)?]?)
+}
+
+/// An audio track of these samples.
+pub(crate) fn sound(alloc: Global, samples: &[&[u8]]) -> Result<TrackSpec, Fail> {
+    let mut copies = Vec::new(alloc);
+    for sample in samples {
+        copies.push(sample.to_vec(alloc)?)?;
+    }
+    Ok(TrackSpec {
+        kind: Kind::Audio,
+        timescale: 48000,
+        stts: vec![in alloc; (u32::try_from(samples.len())?, 1024)]?,
+        ctts: None,
+        stss: None,
+        samples: copies,
+        entry: entry(alloc, Kind::Audio)?,
+    })
+}
+
+/// A film of two samples of audio, of 10 and 20 bytes.
+pub(crate) fn two_samples(alloc: Global) -> Result<Vec<u8>, Fail> {
+    let samples: [&[u8]; 2] = [
+        b"\x01\x02\x03\x04\x05\x06\x07\x08\x09\x0a",
+        b"efghijklmnopqrstuvwx",
+    ];
+    film(alloc, vec![in alloc; sound(alloc, &samples)?]?)
+}
+
+/// A film of three pictures with offsets of 2, -1 and 0, of which the first alone is a sync sample, and of two samples of
+/// audio.
+pub(crate) fn out_of_order(alloc: Global) -> Result<Vec<u8>, Fail> {
+    let pictures = vec![in alloc;
+        b"IIIII".to_vec(alloc)?,
+        b"PPPPPP".to_vec(alloc)?,
+        b"BBBBBBB".to_vec(alloc)?,
+    ]?;
+    let video = TrackSpec {
+        kind: Kind::Video,
+        timescale: 25,
+        stts: vec![in alloc; (3, 1)]?,
+        ctts: Some(vec![in alloc; (1, 2), (1, -1), (1, 0)]?),
+        stss: Some(vec![in alloc; 1]?),
+        samples: pictures,
+        entry: entry(alloc, Kind::Video)?,
+    };
+    let samples: [&[u8]; 2] = [b"aa", b"bbb"];
+    film(alloc, vec![in alloc; video, sound(alloc, &samples)?]?)
+}
+
+// Pictures of 20 seconds, audio of 21.3 seconds, and a second audio track of 2.1 seconds.
+fn three_tracks(alloc: Global) -> Result<Vec<u8>, Fail> {
+    let video = track(alloc, Kind::Video, avc(500, 0, 25))?;
+    let audio = track(alloc, Kind::Audio, aac(1000, 20000))?;
+    let other = track(alloc, Kind::Audio, aac(100, 30000))?;
+    film(alloc, vec![in alloc; video, audio, other]?)
+}
+
+// The texts that the requests name: settings, and mappings below `/r`.
+const TEXTS: [(&str, &str); 22] = [
+    ("align.json", r#"{"align":true}"#),
+    ("start.json", r#"{"bootstrap":[2000,4000]}"#),
+    ("short.json", r#"{"segment_ms":2000}"#),
+    ("long.json", r#"{"segment_ms":2000,"policy":"last_long"}"#),
+    (
+        "near.json",
+        r#"{"segment_ms":2000,"policy":"last_rounded"}"#,
+    ),
+    ("far.json", r#"{"segment_ms":4000,"policy":"last_rounded"}"#),
+    ("tiny.json", r#"{"segment_ms":1}"#),
+    ("bad.json", r#"{"align":1}"#),
+    (
+        "/r/m.json",
+        r#"{"durations":[20000,20000],"sequences":[{"clips":[{"type":"source","path":"/a.mp4"},{"type":"source","path":"/b.mp4"}]}]}"#,
+    ),
+    (
+        "/r/gone.json",
+        r#"{"durations":[20000,20000],"sequences":[{"clips":[{"type":"source","path":"/a.mp4"},{"type":"source","path":"/gone.mp4"}]}]}"#,
+    ),
+    (
+        "/r/joined.json",
+        r#"{"discontinuity":false,"durations":[20000,20000],"sequences":[{"clips":[{"path":"/a.mp4"},{"path":"/b.mp4"}]}]}"#,
+    ),
+    (
+        "/r/lost.json",
+        r#"{"discontinuity":false,"durations":[20000,20000],"sequences":[{"clips":[{"path":"/a.mp4"},{"path":"/gone.mp4"}]}]}"#,
+    ),
+    (
+        "/r/concat.json",
+        r#"{"sequences":[{"clips":[{"type":"concat","paths":["c.mp4","d.mp4"],"durations":[5000,5000],"offset":-1000}]}]}"#,
+    ),
+    (
+        "/r/from.json",
+        r#"{"durations":[6000],"sequences":[{"clips":[{"path":"/a.mp4","clipFrom":4000}]}]}"#,
+    ),
+    (
+        "/r/five.json",
+        r#"{"segmentDuration":5000,"sequences":[{"clips":[{"path":"/a.mp4"}]}]}"#,
+    ),
+    (
+        "/r/hole.json",
+        r#"{"durations":[10000,10000],"sequences":[{"clips":[{"type":"concat","paths":["/a.mp4"],"durations":[1000],"offset":-2000},{"path":"/a.mp4"}]}]}"#,
+    ),
+    (
+        "/r/none.json",
+        r#"{"durations":[10000],"sequences":[{"clips":[{"type":"concat","paths":["/a.mp4"],"durations":[1000],"offset":-2000}]}]}"#,
+    ),
+    (
+        "/r/gain.json",
+        r#"{"sequences":[{"clips":[{"type":"gainFilter","gain":0.5}]}]}"#,
+    ),
+    ("/r/empty.json", r#"{"sequences":[]}"#),
+    ("/r/open.json", "{"),
+    (
+        "/r/most.json",
+        r#"{"durations":[100000],"segmentDuration":1,"sequences":[{"clips":[{"path":"gone.mp4"}]}]}"#,
+    ),
+    (
+        "/r/more.json",
+        r#"{"durations":[100001],"segmentDuration":1,"sequences":[{"clips":[{"path":"gone.mp4"}]}]}"#,
+    ),
+];
+
+// Adds a file.
+fn add(
+    alloc: Global,
+    files: &mut Vec<(Name, Vec<u8>)>,
+    name: &str,
+    bytes: Vec<u8>,
+) -> Result<(), Fail> {
+    files.push((Name::new(alloc, name)?, bytes))?;
+    Ok(())
+}
+
+/// All texts and films that the requests name, below `/r`.
+pub(crate) fn films(alloc: Global) -> Result<MemStore, Fail> {
+    let mut files = Vec::new(alloc);
+    for (name, text) in &TEXTS {
+        add(alloc, &mut files, name, text.as_bytes().to_vec(alloc)?)?;
+    }
+    let shapes = [
+        ("/r/aac.mp4", Kind::Audio, aac(1000, 0)),
+        (
+            "/r/cd.mp4",
+            Kind::Audio,
+            Shape {
+                timescale: 44100,
+                ..aac(900, 0)
+            },
+        ),
+        (
+            "/r/ntsc.mp4",
+            Kind::Video,
+            Shape {
+                timescale: 30000,
+                delta: 1001,
+                ..avc(300, 0, 30)
+            },
+        ),
+        (
+            "/r/slow.mp4",
+            Kind::Audio,
+            Shape {
+                timescale: 1,
+                delta: 60,
+                ..aac(2, 0)
+            },
+        ),
+        (
+            "/r/ages.mp4",
+            Kind::Audio,
+            Shape {
+                timescale: 1,
+                delta: 0xffff_ffff,
+                ..aac(4, 0)
+            },
+        ),
+        ("/r/keys.mp4", Kind::Video, avc(1250, 0, 625)),
+        ("/r/odd.mp4", Kind::Video, avc(325, 0, 25)),
+        ("/r/a.mp4", Kind::Video, avc(500, 0, 25)),
+        ("/r/b.mp4", Kind::Video, avc(125, 10000, 25)),
+        ("/r/c.mp4", Kind::Video, avc(125, 0, 50)),
+        ("/r/d.mp4", Kind::Video, avc(125, 10000, 50)),
+    ];
+    for (name, kind, shape) in shapes {
+        add(alloc, &mut files, name, film_of(alloc, kind, shape)?)?;
+    }
+    add(alloc, &mut files, "/r/av.mp4", three_tracks(alloc)?)?;
+    add(alloc, &mut files, "/r/two.mp4", two_samples(alloc)?)?;
+    add(alloc, &mut files, "/r/order.mp4", out_of_order(alloc)?)?;
+    let mut wide = b"{}".to_vec(alloc)?;
+    wide.resize(1_048_577, b' ')?;
+    add(alloc, &mut files, "/r/wide.json", wide)?;
+    Ok(MemStore::new(files, Vec::new(alloc)))
+}
+
+/// The store of one file, whose calls of these numbers fail.
+pub(crate) fn store_of(
+    alloc: Global,
+    name: &str,
+    bytes: Vec<u8>,
+    fails: Vec<u64>,
+) -> Result<MemStore, Fail> {
+    let file = (Name::new(alloc, name)?, bytes);
+    Ok(MemStore::new(vec![in alloc; file]?, fails))
+}
+
+/// What a run came to: its store, its status, what it wrote, and the line that tells its end.
+#[derive(Drop)]
+pub(crate) struct Run<S: Store> {
+    pub(crate) store: S,
+    pub(crate) status: u8,
+    pub(crate) body: Vec<u8>,
+    pub(crate) line: Vec<u8>,
+}
+
+/// Runs `COMMAND /r SETTINGS PATH` over a store.
+pub(crate) fn ran<S: Store + Drop>(
+    alloc: Global,
+    command: &str,
+    store: S,
+    settings: &str,
+    path: &str,
+) -> Result<Run<S>, Fail> {
+    let mut words = Vec::new(alloc);
+    for word in [command, "/r", settings, path] {
+        words.push(String::from_str(alloc, word)?)?;
+    }
+    let mut door = MemDoor::new(alloc, Vec::new(alloc), Vec::new(alloc))?;
+    let mut out = VecSink::new(Vec::new(alloc));
+    let mut err = VecSink::new(Vec::new(alloc));
+    let Ended { status, store } = run(alloc, &words, store, &mut door, &mut out, &mut err);
+    Ok(Run {
+        store,
+        status,
+        body: out.into_vec(),
+        line: err.into_vec(),
+    })
+}
