@@ -1,0 +1,576 @@
+#!/usr/bin/env python3
+"""Compares answers of vodpack on random films and mappings to a model that is written here from the same rules.
+
+usage: tests/random_requests.py [PROGRAM [SEED [ROUNDS]]]
+
+PROGRAM is the built vodpack, by default crates/vodpack/out/vodpack. In each round some small films with tables of all forms,
+a mapping and settings are drawn, and then many paths of initialization segments and fragments are asked for. Each answer is
+compared byte for byte, and each refusal by its number. The model goes through lists of samples and knows nothing of how the
+program reads tables. The status is 0 where all were equal; else the first case that differs is kept in a folder that is named.
+"""
+import json
+import os
+import random
+import shutil
+import struct
+import subprocess
+import sys
+import tempfile
+
+UNITS = 90000
+ENDLESS = 1 << 62
+
+
+def u32(*numbers):
+    return struct.pack(f">{len(numbers)}I", *numbers)
+
+
+def box(kind, *parts):
+    body = b"".join(parts)
+    return u32(8 + len(body)) + kind + body
+
+
+def full(kind, *parts, version=0, flags=0):
+    return box(kind, u32(version << 24 | flags), *parts)
+
+
+class Refused(Exception):
+    """A refusal with this number."""
+
+
+# Films
+
+
+def entry_of(kind):
+    if kind == "a":
+        decoder = bytes([4, 17, 0x40, 0x15]) + bytes(11) + bytes([5, 2, 0x11, 0x90])
+        esds = full(b"esds", bytes([3, 25, 0, 1, 0]) + decoder + bytes([6, 1, 2]))
+        head = bytes(6) + b"\0\3" + bytes(8) + struct.pack(">HH", 2, 16) + bytes(4) + u32(48000 << 16)
+        return box(b"mp4a", head, esds)
+    config = b"\x01\x42\xc0\x1e\xff\xe1\x00\x04\x67\x42\xc0\x1e\x01\x00\x04\x68\xce\x3c\x80"
+    head = bytes(6) + b"\0\1" + bytes(16) + struct.pack(">HH", 640, 360) + bytes(50)
+    return box(b"avc1", head, box(b"avcC", config))
+
+
+class Track:
+    """A track with random tables: its samples are (ticks, offset, delta, sync, bytes)."""
+
+    def __init__(self, draw, kind, seconds):
+        self.kind = kind
+        self.scale = draw.choice([1, 7, 24, 25, 1000, 12800, 30000, 44100, 48000, 90000, 1000003])
+        usual = draw.choice([max(1, self.scale // draw.choice([1, 2, 5, 25])), 1024, 1001, draw.randint(1, 2 * self.scale)])
+        usual = max(usual, self.scale * seconds // 300, 1)
+        ticks = 0
+        has_offsets, all_sync = draw.random() < 0.5, draw.random() < 0.4
+        key = draw.choice([1, 3, 10, 25, 1000])
+        first_sync = draw.random() < 0.9
+        self.samples = []
+        while ticks < seconds * self.scale and len(self.samples) < 400:
+            delta = usual if draw.random() < 0.9 else draw.choice([0, 1, 2 * usual, draw.randint(0, 3 * usual)])
+            offset = draw.choice([0, 0, usual, -usual, 2 * usual]) if has_offsets else 0
+            number = len(self.samples)
+            sync = all_sync or (number % key == 0 and (first_sync or number > 0))
+            size = draw.choice([0, 1, 5, 20, draw.randint(0, 60)])
+            self.samples.append((ticks, offset, delta, sync, draw.randbytes(size)))
+            ticks += delta
+        self.has_offsets, self.all_sync = has_offsets, all_sync
+        self.entry = entry_of(kind)
+
+    def units(self, ticks):
+        return ticks * UNITS // self.scale
+
+
+def runs(draw, values):
+    """Runs of equal values, which may be cut at any place."""
+    found = []
+    for value in values:
+        if found and found[-1][1] == value and draw.random() < 0.95:
+            found[-1][0] += 1
+        else:
+            found.append([1, value])
+    return found
+
+
+def film(draw, tracks):
+    """The bytes of a film: the chunks of its tracks stand in any order, and the movie box before or behind them."""
+    chunks = []
+    for number, track in enumerate(tracks):
+        left = list(range(len(track.samples)))
+        while left:
+            count = min(len(left), draw.choice([1, 2, 5, 50, 400]))
+            chunks.append((number, left[:count]))
+            left = left[count:]
+    order = chunks[:]
+    if draw.random() < 0.7:
+        draw.shuffle(order)
+    wide, ends = draw.random() < 0.3, draw.random() < 0.5
+    kind = box(b"ftyp", b"isom", u32(0), b"isom")
+    junk = box(b"free", draw.randbytes(draw.randint(0, 30)))
+
+    def movie(start):
+        places, at = {}, start
+        for number, samples in order:
+            places[(number, samples[0])] = at
+            at += sum(len(tracks[number].samples[i][4]) for i in samples) + 3
+        boxes = [full(b"mvhd", bytes(96))]
+        for number, track in enumerate(tracks):
+            boxes.append(track_box(draw_of[number], track, [(places[(n, s[0])], len(s)) for n, s in chunks if n == number], wide))
+            if draw_of[number].random() < 0.2:
+                boxes.append(box(b"trak", box(b"mdia", full(b"hdlr", u32(0), b"text", bytes(13)))))
+        return box(b"moov", *boxes)
+
+    seeds = [draw.randint(0, 1 << 30) for _ in tracks]
+    length = 0
+    media = b"".join(b"".join(tracks[n].samples[i][4] for i in s) + b"###" for n, s in order)
+    for _ in range(2):
+        draw_of = [random.Random(seed) for seed in seeds]
+        start = len(kind) + len(junk) + 8 + (0 if ends else length)
+        moov = movie(start)
+        length = len(moov)
+    data = box(b"mdat", media)
+    return kind + junk + data + moov if ends else kind + junk + moov + data
+
+
+def track_box(draw, track, chunks, wide):
+    samples = track.samples
+    times = runs(draw, [it[2] for it in samples])
+    tables = [full(b"stsd", u32(1), track.entry), full(b"stts", u32(len(times)), *(u32(*it) for it in times))]
+    if track.has_offsets:
+        found = runs(draw, [it[1] for it in samples])
+        version = 1 if any(it[1] < 0 for it in found) else draw.choice([0, 1])
+        fields = b"".join(struct.pack(">Ii", *it) for it in found)
+        tables.append(full(b"ctts", u32(len(found)), fields, version=version))
+    if not track.all_sync:
+        keys = [i + 1 for i, it in enumerate(samples) if it[3]]
+        tables.append(full(b"stss", u32(len(keys), *keys)))
+    first, counts = 1, []
+    for count, many in runs(draw, [it[1] for it in chunks]):
+        counts.append(u32(first, many, 1))
+        first += count
+    tables.append(full(b"stsc", u32(len(counts)), *counts))
+    sizes = [len(it[4]) for it in samples]
+    if sizes and min(sizes) == max(sizes) > 0:
+        tables.append(full(b"stsz", u32(sizes[0], len(sizes))))
+    else:
+        tables.append(full(b"stsz", u32(0, len(sizes), *sizes)))
+    places = [it[0] for it in chunks]
+    if wide:
+        tables.append(full(b"co64", u32(len(places)), *(struct.pack(">Q", it) for it in places)))
+    else:
+        tables.append(full(b"stco", u32(len(places), *places)))
+    if draw.random() < 0.3:
+        draw.shuffle(tables)
+    if draw.random() < 0.5:
+        header = full(b"mdhd", u32(0, 0, track.scale, 0), b"\x55\xc4\0\0")
+    else:
+        header = full(b"mdhd", bytes(16), u32(track.scale, 0, 0), b"\x55\xc4\0\0", version=1)
+    handler = full(b"hdlr", u32(0), {"v": b"vide", "a": b"soun"}[track.kind], bytes(13))
+    return box(b"trak", full(b"tkhd", bytes(80)), box(b"mdia", header, handler, box(b"minf", box(b"stbl", *tables))))
+
+
+# The model: pieces and parts
+
+
+def timeline(mapping, sequence, window, tracks):
+    sequences = mapping["sequences"]
+    if not 1 <= sequence <= len(sequences):
+        raise Refused(15)
+    lengths = mapping.get("durations")
+    low, high = window[0] or 0, window[1]
+    pieces, clips, start = [], [], 0
+    for place, clip in enumerate(sequences[sequence - 1]["clips"]):
+        exposed = clip.get("tracks") or tracks or "v1-a1"
+        found = []
+        if clip.get("type") == "concat":
+            length = lengths[place] if lengths else sum(clip["durations"]) + clip.get("offset", 0)
+            before = 0
+            for path, lasts in zip(clip["paths"], clip["durations"]):
+                base = 90 * (start + clip.get("offset", 0) + before)
+                found.append([clip.get("basePath", "") + path, base, max(0, 90 * start - base), min(90 * lasts, 90 * (start + length) - base)])
+                before += lasts
+        else:
+            length = lengths[place] if lengths else None
+            skipped = clip.get("clipFrom", 0)
+            lo = 90 * skipped
+            found.append([clip["path"], 90 * (start - skipped), lo, None if length is None else lo + 90 * length])
+        kept = []
+        for name, base, lo, hi in found:
+            lo = max(lo, 90 * low - base)
+            if high is not None:
+                hi = 90 * high - base if hi is None else min(hi, 90 * high - base)
+            if hi is None or lo < hi:
+                kept.append((name.removeprefix("/"), exposed, base - 90 * low, lo, hi))
+        clips.append((start, length, kept))
+        start += length or 0
+    if not any(kept for _, _, kept in clips):
+        raise Refused(16)
+    if mapping.get("discontinuity", True):
+        whole = clips
+    else:
+        lasts = [it[1] for it in clips]
+        whole = [(0, None if None in lasts else sum(lasts), [piece for it in clips for piece in it[2]])]
+    parts = []
+    for begins, length, kept in whole:
+        left = None
+        if length is not None:
+            left = max(0, min(begins + length, ENDLESS if high is None else high) - max(begins, low))
+        if left != 0:
+            parts.append((90 * (max(begins, low) - low), left, kept))
+    return parts
+
+
+def checked(films, piece, asked):
+    """The asked tracks of a piece, or its first fault."""
+    name, exposed, _, _, _ = piece
+    if name not in films:
+        raise Refused(20)
+    named = {"v": [], "a": []}
+    for it in exposed.split("-"):
+        own = [track for track in films[name] if track.kind == it[0]]
+        if int(it[1:]) <= len(own):
+            named[it[0]].append(own[int(it[1:]) - 1])
+    found = {}
+    for kind in ("v", "a"):
+        if kind in asked:
+            if asked[kind] > len(named[kind]):
+                raise Refused(25)
+            found[kind] = named[kind][asked[kind] - 1]
+    return found
+
+
+def selected(piece, tracks, lead):
+    """The selected rows of a piece by kind: (time, presentation, duration, sync, bytes)."""
+    _, _, base, lo, hi = piece
+    hi = ENDLESS if hi is None else hi
+    rows = {kind: [] for kind in tracks}
+    track = tracks[lead]
+    inside = [it for it in track.samples if lo <= track.units(it[0]) < hi]
+    while inside and not inside[0][3]:
+        inside = inside[1:]
+    if not inside:
+        return rows
+    first = track.units(inside[0][0])
+    for kind, track in tracks.items():
+        chosen = inside if kind == lead else [it for it in track.samples if first <= track.units(it[0]) < hi]
+        for ticks, offset, delta, sync, data in chosen:
+            q = track.units
+            rows[kind].append((base + q(ticks), base + q(ticks + offset), q(ticks + delta) - q(ticks), sync, data))
+    return rows
+
+
+# The model: the grid
+
+
+def boundary(grid, k):
+    starts, step = grid["bootstrap"], grid["step"]
+    return sum(starts[:k]) + step * max(0, k - len(starts))
+
+
+def cells(grid, length):
+    if length == 0:
+        return 0
+    n = 0
+    while boundary(grid, n) < length:
+        n += 1
+    if grid["policy"] == "last_short":
+        return n
+    m = n if boundary(grid, n) == length else n - 1
+    if grid["policy"] == "last_rounded" and 2 * (length - boundary(grid, m)) >= boundary(grid, m + 1) - boundary(grid, m):
+        m += 1
+    return max(1, m)
+
+
+# The model: answers
+
+
+def fragment(number, rows):
+    order = [kind for kind in ("v", "a") if rows.get(kind)]
+    size = 24 + sum(64 + 16 * len(rows[kind]) for kind in order)
+    place, trafs, media = size + 8, [], b""
+    for kind in order:
+        own = rows[kind]
+        entries = b""
+        for i, (time, shown, lasts, sync, data) in enumerate(own):
+            lasts = own[i + 1][0] - time if i + 1 < len(own) else lasts
+            entries += struct.pack(">IIIi", min(lasts, 0xFFFFFFFF), len(data), 0x02000000 if sync else 0x01010000, shown - time)
+        trafs.append(
+            box(
+                b"traf",
+                full(b"tfhd", u32(1 if kind == "v" else 2), flags=0x020000),
+                full(b"tfdt", struct.pack(">Q", own[0][0]), version=1),
+                full(b"trun", u32(len(own), place), entries, version=1, flags=0x000F01),
+            )
+        )
+        data = b"".join(it[4] for it in own)
+        media += data
+        place += len(data)
+    front = box(b"styp", b"msdh", u32(0), b"msdh", b"iso6")
+    return front + box(b"moof", full(b"mfhd", u32(number)), *trafs) + box(b"mdat", media)
+
+
+def init(tracks):
+    matrix = u32(0x10000, 0, 0, 0, 0x10000, 0, 0, 0, 0x40000000)
+    boxes = [full(b"mvhd", u32(0, 0, UNITS, 0, 0x10000), b"\1\0", bytes(10), matrix, bytes(24), u32(3))]
+    ends = []
+    for kind in ("v", "a"):
+        if kind not in tracks:
+            continue
+        number, is_video = (1, True) if kind == "v" else (2, False)
+        size = u32(640 << 16, 360 << 16) if is_video else u32(0, 0)
+        loud = b"\0\0" if is_video else b"\1\0"
+        header = full(b"tkhd", u32(0, 0, number, 0, 0), bytes(8), bytes(4), loud, bytes(2), matrix, size, flags=7)
+        own = tracks[kind].entry
+        own = own[:14] + b"\0\1" + own[16:]
+        tables = box(
+            b"stbl",
+            full(b"stsd", u32(1), own),
+            full(b"stts", u32(0)),
+            full(b"stsc", u32(0)),
+            full(b"stsz", u32(0, 0)),
+            full(b"stco", u32(0)),
+        )
+        place = box(b"dinf", full(b"dref", u32(1), full(b"url ", flags=1)))
+        about = full(b"vmhd", bytes(8), flags=1) if is_video else full(b"smhd", u32(0))
+        media = box(
+            b"mdia",
+            full(b"mdhd", u32(0, 0, UNITS, 0), b"\x55\xc4\0\0"),
+            full(b"hdlr", u32(0), b"vide" if is_video else b"soun", bytes(13)),
+            box(b"minf", about, place, tables),
+        )
+        boxes.append(box(b"trak", header, media))
+        ends.append(full(b"trex", u32(number, 1, 0, 0, 0)))
+    return box(b"ftyp", b"iso6", u32(0), b"iso6", b"dash") + box(b"moov", *boxes, box(b"mvex", *ends))
+
+
+def answer(films, mapping, settings, ask):
+    """The body of a request, or its refusal."""
+    grid = {
+        "step": mapping.get("segmentDuration", settings.get("segment_ms", 10000)),
+        "bootstrap": settings.get("bootstrap", []),
+        "policy": settings.get("policy", "last_short"),
+    }
+    align = settings.get("align", False)
+    asked = ask["asked"]
+    lead = "v" if "v" in asked else "a"
+    parts = timeline(mapping, ask["sequence"], ask["window"], ask["tracks"])
+    if "part" in ask:
+        if not 1 <= ask["part"] <= len(parts):
+            raise Refused(45)
+        kept = parts[ask["part"] - 1][2]
+        if not kept:
+            raise Refused(46)
+        return init(checked(films, kept[0], asked))
+    number = ask["number"]
+    if any(length is None for _, length, _ in parts):
+        begins, _, kept = parts[0]
+        tracks = checked(films, kept[0], asked)
+        own = selected(kept[0], tracks, lead)[lead]
+        end = own[-1][0] + own[-1][2] if own else begins
+        counts = [cells(grid, -(-(end - begins) // 90))]
+    else:
+        counts = [cells(grid, length) for _, length, _ in parts]
+    if sum(counts) > 100000:
+        raise Refused(42)
+    if not 1 <= number <= sum(counts):
+        raise Refused(40)
+    part, k = 0, number - 1
+    while k >= counts[part]:
+        k -= counts[part]
+        part += 1
+    begins, length, kept = parts[part]
+    from_, to = begins + 90 * boundary(grid, k), begins + 90 * boundary(grid, k + 1)
+    is_last = k + 1 == counts[part]
+    may = lambda row, time: row[0] >= time and (row[3] or not align)
+    rows = {kind: [] for kind in asked}
+    needed = False
+    for piece in kept:
+        needed = needed or piece[4] is None or piece[2] + piece[4] > from_ or length is None
+        if not needed:
+            continue
+        own = selected(piece, checked(films, piece, asked), lead)
+        for kind in asked:
+            rows[kind] += own[kind]
+        if length is not None and not is_last and any(may(row, to) for row in own[lead]):
+            break
+    leads = rows[lead]
+    place = lambda time: next((i for i, row in enumerate(leads) if may(row, time)), len(leads))
+    first = place(from_)
+    last = len(leads) if is_last else place(to)
+    if first == last:
+        raise Refused(41)
+    until = leads[last][0] if last < len(leads) else ENDLESS
+    result = {lead: leads[first:last]}
+    for kind in asked:
+        if kind != lead:
+            result[kind] = [row for row in rows[kind] if leads[first][0] <= row[0] < until]
+    return fragment(number, result)
+
+
+# Random requests
+
+
+def draw_tracks(draw):
+    names = draw.sample(["v1", "a1", "v2", "a2", "a3"], draw.randint(1, 4))
+    return "-".join(names)
+
+
+def draw_clip(draw, names, declared):
+    clip = {}
+    if draw.random() < 0.4:
+        count = draw.randint(1, 4)
+        clip["type"] = "concat"
+        clip["paths"] = [draw.choice(names) for _ in range(count)]
+        clip["durations"] = [draw.randint(1, 9000) for _ in range(count)]
+        if draw.random() < 0.6:
+            least = 1 - sum(clip["durations"])
+            clip["offset"] = draw.randint(-12000 if declared else max(least, -12000), 6000)
+    else:
+        clip["path"] = draw.choice(["", "/"]) + draw.choice(names)
+        if draw.random() < 0.5:
+            clip["clipFrom"] = draw.choice([0, 1, draw.randint(0, 9000)])
+    if draw.random() < 0.1:
+        clip["tracks"] = draw_tracks(draw)
+    return clip
+
+
+def draw_mapping(draw, names):
+    mapping = {}
+    count = 1
+    if draw.random() < 0.7:
+        count = draw.randint(1, 5)
+        mapping["durations"] = [draw.choice([1, 500 * draw.randint(1, 30), draw.randint(1, 20000)]) for _ in range(count)]
+    if draw.random() < 0.6:
+        mapping["discontinuity"] = draw.random() < 0.3
+    if draw.random() < 0.3:
+        mapping["segmentDuration"] = draw.choice([700, 1000, 2000, 10000])
+    clips = lambda: [draw_clip(draw, names, "durations" in mapping) for _ in range(count)]
+    mapping["sequences"] = [{"clips": clips()} for _ in range(draw.randint(1, 2))]
+    return mapping
+
+
+def draw_settings(draw):
+    settings = {}
+    if draw.random() < 0.8:
+        settings["segment_ms"] = draw.choice([1, 333, 1000, 2000, draw.randint(200, 3000)])
+    if draw.random() < 0.4:
+        settings["bootstrap"] = [draw.randint(1, 3000) for _ in range(draw.randint(1, 4))]
+    if draw.random() < 0.4:
+        settings["align"] = draw.random() < 0.8
+    if draw.random() < 0.7:
+        settings["policy"] = draw.choice(["last_short", "last_long", "last_rounded"])
+    return settings
+
+
+def draw_ask(draw, is_mapped, names):
+    """A path, the mapping that it has where it is local, and what it asks for."""
+    ask = {"window": (None, None), "tracks": None, "sequence": 1}
+    words, mapping = [], None
+    if is_mapped:
+        target = "m.json"
+    elif draw.random() < 0.3:
+        many = [draw.choice(names) for _ in range(draw.randint(1, 3))]
+        target = "f," + ",".join(it[1:-4] for it in many) + ",.mp4.urlset"
+        mapping = many
+    else:
+        mapping = [draw.choice(names)]
+        target = mapping[0]
+    if draw.random() < 0.2:
+        ask["sequence"] = draw.randint(0, 3)
+    low = high = None
+    if draw.random() < 0.4:
+        low = draw.choice([0, draw.randint(0, 9000)])
+        words.append(f"clipFrom/{low}")
+    if draw.random() < 0.4:
+        high = (low or 0) + draw.choice([1, 1000, draw.randint(1, 20000)])
+        words.append(f"clipTo/{high}")
+    ask["window"] = (low, high)
+    if draw.random() < 0.1:
+        ask["tracks"] = draw_tracks(draw)
+        words.append(f"tracks/{ask['tracks']}")
+    draw.shuffle(words)
+    ask["asked"] = draw.choice([{"v": 1}, {"a": 1}, {"v": 1, "a": 1}, {"v": 1, "a": 1}])
+    if draw.random() < 0.05:
+        ask["asked"] = draw.choice([{"v": 2}, {"v": 1, "a": 2}])
+    named = "-".join(f"{kind}{number}" for kind, number in ask["asked"].items())
+    if draw.random() < 0.15:
+        ask["part"] = draw.choice([0, 1, 1, 2, 3])
+        leaf = f"init-c{ask['part']}-f{ask['sequence']}-{named}.mp4"
+    else:
+        ask["number"] = draw.choice([0, 1, 1, 2, 2, 3, 4, draw.randint(1, 9), draw.randint(1, 40)])
+        leaf = f"fragment-{ask['number']}-f{ask['sequence']}-{named}.m4s"
+    place = "mapped" if is_mapped else "local"
+    if mapping is not None:
+        mapping = {"sequences": [{"clips": [{"path": it}]} for it in mapping]}
+    return "/".join(["", place, "dash", target, *words, leaf]), mapping, ask
+
+
+def run_round(program, draw, folder, counts):
+    names = [f"f{i}.mp4" for i in range(3)]
+    films = {}
+    for name in names:
+        kinds = draw.choice(["v", "a", "va", "va", "va", "av", "vaa", "vava"])
+        tracks = [Track(draw, kind, draw.choice([0, 1, 5, 10, 15, 15, 20])) for kind in kinds]
+        films[name] = tracks
+        with open(f"{folder}/{name}", "wb") as file:
+            file.write(film(draw, tracks))
+    names.append("f9.mp4")
+    if draw.random() < 0.7:
+        names.pop()
+    settings, mapped = draw_settings(draw), draw_mapping(draw, names)
+    for name, value in (("s.json", settings), ("m.json", mapped)):
+        with open(f"{folder}/{name}", "w") as file:
+            json.dump(value, file)
+    for _ in range(60):
+        # most of the requests that come to nothing are drawn anew
+        for _ in range(draw.choice([1, 8])):
+            path, local, ask = draw_ask(draw, draw.random() < 0.7, names)
+            try:
+                want = (0, answer(films, local or mapped, settings, ask), b"")
+                break
+            except Refused as refusal:
+                want = (2, b"", b"refused %d " % refusal.args[0])
+        ran = subprocess.run([program, "get", ".", "s.json", path], cwd=folder, capture_output=True)
+        line = ran.stderr if want[0] == 0 else ran.stderr[: len(want[2])]
+        word = f"refused {refusal_of(want[2])}" if want[0] else ("init" if "part" in ask else "fragment")
+        counts[word] = counts.get(word, 0) + 1
+        if (ran.returncode, ran.stdout, line) != want:
+            print(f"differs: get . s.json {path}")
+            print(f"want {want[0]} {len(want[1])} bytes {want[2]}, have {ran.returncode} {len(ran.stdout)} bytes {ran.stderr}")
+            with open(f"{folder}/want", "wb") as file:
+                file.write(want[1])
+            return False
+    return True
+
+
+def refusal_of(line):
+    return line.split()[1].decode()
+
+
+def main():
+    here = os.path.dirname(os.path.abspath(__file__))
+    words = sys.argv[1:]
+    program = os.path.abspath(words[0] if words else f"{here}/../crates/vodpack/out/vodpack")
+    if not os.access(program, os.X_OK):
+        print(f"there is no program {program}: build it with rt run in crates/vodpack, or name it")
+        return 2
+    seed = int(words[1]) if len(words) > 1 else 1
+    rounds = int(words[2]) if len(words) > 2 else 40
+    counts = {}
+    for i in range(rounds):
+        folder = tempfile.mkdtemp()
+        try:
+            passed = run_round(program, random.Random(f"{seed} {i}"), folder, counts)
+        except BaseException:
+            shutil.rmtree(folder, ignore_errors=True)
+            raise
+        if not passed:
+            print(f"seed {seed} round {i}: the files and what is due are in {folder}")
+            return 1
+        shutil.rmtree(folder, ignore_errors=True)
+    told = ", ".join(f"{count} {word}" for word, count in sorted(counts.items()))
+    print(f"seed {seed}, {rounds} rounds: {told}")
+    return 0
+
+
+if __name__ == "__main__":
+    sys.exit(main())
