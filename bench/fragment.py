@@ -17,24 +17,14 @@ import sys
 import tempfile
 import time
 
+sys.path.insert(0, os.path.join(os.path.dirname(os.path.abspath(__file__)), "..", "tests"))
+from boxes import box, full, u32
+
 SECONDS = 3600
 PICTURES = 25 * SECONDS
 SOUNDS = 48000 * SECONDS // 1024
 RUNS = 5
 GOAL = 2.0
-
-
-def u32(*numbers):
-    return struct.pack(f">{len(numbers)}I", *numbers)
-
-
-def box(kind, *parts):
-    body = b"".join(parts)
-    return u32(8 + len(body)) + kind + body
-
-
-def full(kind, *parts, version=0, flags=0):
-    return box(kind, u32(version << 24 | flags), *parts)
 
 
 def runs(values):

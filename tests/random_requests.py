@@ -17,21 +17,10 @@ import subprocess
 import sys
 import tempfile
 
+from boxes import box, full, u32
+
 UNITS = 90000
 ENDLESS = 1 << 62
-
-
-def u32(*numbers):
-    return struct.pack(f">{len(numbers)}I", *numbers)
-
-
-def box(kind, *parts):
-    body = b"".join(parts)
-    return u32(8 + len(body)) + kind + body
-
-
-def full(kind, *parts, version=0, flags=0):
-    return box(kind, u32(version << 24 | flags), *parts)
 
 
 class Refused(Exception):

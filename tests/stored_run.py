@@ -8,20 +8,9 @@ request looks at. The output is the fragment of both samples, box by box; a samp
 import os
 import struct
 
+from boxes import box, full, u32
+
 SAMPLES = [bytes(range(1, 11)), b"efghijklmnopqrstuvwx"]
-
-
-def u32(*numbers):
-    return struct.pack(f">{len(numbers)}I", *numbers)
-
-
-def box(kind, *parts):
-    body = b"".join(parts)
-    return u32(8 + len(body)) + kind + body
-
-
-def full(kind, *parts, version=0, flags=0):
-    return box(kind, u32(version << 24 | flags), *parts)
 
 
 def movie(place):
