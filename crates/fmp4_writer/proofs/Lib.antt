@@ -4,3 +4,4 @@ pub mod GrowthLemmas
 pub mod EntryLemmas
 pub mod SamplesLemmas
 pub mod ProgressLemmas
+pub mod StepLemmas

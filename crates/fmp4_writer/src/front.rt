@@ -1,11 +1,11 @@
 // What stands before the samples of a media segment: `styp`, `moof` and the header of `mdat`.
-ghost use Rattle.std.specs.Prelude.{◌≡◌, ℕ, ◌+◌, ◌*◌, ◌≤◌, ◌<◌, ◌^◌, ◌++◌, [], ◌∷◌, length, codes, pos, ◌≤ℤ◌, ◌-ℤ◌, FitsSigned};
-ghost use Rattle.std.specs.Int.{w32, w64, int_gap, cast_unsigned};
+ghost use Rattle.std.specs.Prelude.{◌≡◌, ◌+◌, ◌*◌, ◌≤◌, ◌<◌, ◌^◌, ◌++◌, ◌∷◌, length, codes, pos, ◌≤ℤ◌};
+ghost use Rattle.std.specs.Int.{w64, int_gap, cast_unsigned};
 ghost use Rattle.std.specs.Option.{option_to_list, option_copied};
 ghost use Rattle.arrayvec.specs.ArrayVec.{array_vec_len};
 ghost use Rattle.vod_bytes.specs.Fields.{be32};
 ghost use Rattle.media_model.specs.Boxes.{full_box};
-ghost use Rattle.media_model.specs.Fragment.{segment_type, media_data_header, run_entry as run_entry_of, track_fragment_header, decode_time, composition_offset, row_duration, written_duration, sample_flags, sizes, track_fragment, run_entries, fragment_front, movie_fragment_size, track_fragment_size};
+ghost use Rattle.media_model.specs.Fragment.{segment_type, media_data_header, run_entry as run_entry_of, decode_time, composition_offset, row_duration, written_duration, sample_flags, sizes, track_fragment, run_entries, fragment_front, movie_fragment_size, track_fragment_size};
 ghost use Rattle.media_model.specs.InitSegment.{track_number};
 ghost use Rattle.media_model.specs.Laws.{IsFragmentTrack, AreFragmentTracks};
 ghost use Rattle.vod_types.specs.SegmentRows.{rows_of, rows_left};

@@ -7,7 +7,9 @@ mod movie;
 #[cfg(test)]
 mod tests;
 mod track_boxes;
+mod whole;
 mod writing;
 
 pub use movie::init;
+pub use whole::write_fragment;
 pub use writing::{Fragment, fragment_size};

@@ -1,7 +1,6 @@
 // The initialization segment: `ftyp`, and `moov` without samples.
-ghost use Rattle.std.specs.Prelude.{◌≡◌, ◌+◌, ◌*◌, ◌≤◌, ◌++◌, length, codes, OnOk, IfOk};
+ghost use Rattle.std.specs.Prelude.{◌≡◌, ◌+◌, ◌≤◌, ◌++◌, OnOk, IfOk};
 ghost use Rattle.std.specs.Option.{ForSome, option_copied};
-ghost use Rattle.vod_bytes.specs.Fields.{be32};
 ghost use Rattle.media_model.specs.InitSegment.{init_segment, for_entry, track, track_defaults, file_type, entry_size};
 ghost use Rattle.fmp4_writer.specs.Entry.{IsEntry, beside, defaults_size, movie};
 

@@ -1,12 +1,11 @@
 //! Segments of rows in memory, against bytes that stand in the standard's terms.
 ghost use Rattle.std.specs.Prelude.{◌≡◌, true, ◌^◌, ◌<◌, [], ◌∷◌, length, codes, IfOk};
 ghost use Rattle.fmp4_writer.specs.Entry.{IsEntry};
-ghost use Rattle.fmp4_writer.specs.Progress.{AreWritable};
 
-use crate::{Fragment, fragment_size, init};
+use crate::{fragment_size, init, write_fragment};
 use std::alloc::Global;
 use std::test::Fail;
-use vod_source::{MemSink, MemStore, Sink, Step, Store};
+use vod_source::{CopyFault, MemSink, MemStore};
 use vod_types::{Kind, Name, Row, Rows, Sample};
 
 // The sample entry of AAC-LC at 48000 Hz with two channels (ISO/IEC 14496-14), with data reference 5.
@@ -118,25 +117,6 @@ impl Rows for ListedRows<'_> {
     }
 }
 
-// Writes the segment with this number in at most eight steps, and gives the last answer.
-fn write_all<R: Rows, S: Store, K: Sink>(
-    number: u32,
-    rows: &mut R,
-    store: &mut S,
-    sink: &mut K,
-) -> Option<Step>
-    requires { AreWritable (S.content store.old) (R.rows rows.old) }
-{
-    let mut fragment = Fragment::new(number);
-    for _ in 0..8 {
-        match fragment.next(rows, store, sink) {
-            Step::Again => {}
-            step => return Some(step),
-        }
-    }
-    None
-}
-
 // An audio sample of 1920 units.
 fn audio_row(number: u64, at: u64, size: u32, time: i64) -> Row
     ensures { result ≡ record { file = 0; number = number; sample = record { at = at; size = size; dts = time; pts = time; dur = 1920; sync = true } } }
@@ -168,7 +148,7 @@ fn segment(
     alloc: Global,
     store_fails: Vec<u64>,
     sink_fails: Vec<u64>,
-) -> Result<(Option<Step>, Vec<u8>), Fail> {
+) -> Result<(Result<(), CopyFault>, Vec<u8>), Fail> {
     let audio = [audio_row(0, 0, 10, 0), audio_row(1, 10, 20, 1920)];
     let mut rows = ListedRows {
         video: &[],
@@ -179,15 +159,15 @@ fn segment(
     };
     let mut store = samples_store(alloc, store_fails)?;
     let mut sink = MemSink::new(alloc, 182, sink_fails)?;
-    let step = write_all(1, &mut rows, &mut store, &mut sink);
-    Ok((step, sink.written().to_vec(alloc)?))
+    let ended = write_fragment(1, &mut rows, &mut store, &mut sink);
+    Ok((ended, sink.written().to_vec(alloc)?))
 }
 
 #[test]
 fn writes_a_segment(rt: HostRuntime) -> Result<(), Fail> {
     let alloc = rt.alloc();
-    let (step, bytes) = segment(alloc, Vec::new(alloc), Vec::new(alloc))?;
-    assert_eq!(rt; step, Some(Step::Whole));
+    let (ended, bytes) = segment(alloc, Vec::new(alloc), Vec::new(alloc))?;
+    assert_eq!(rt; ended, Ok(()));
     assert_eq!(rt; bytes.as_slice(), SEGMENT.as_slice());
     Ok(())
 }
@@ -205,13 +185,13 @@ fn stops_at_a_failure(rt: HostRuntime) -> Result<(), Fail> {
         (6, 152),
         (7, 162),
     ] {
-        let (step, bytes) = segment(alloc, Vec::new(alloc), vec![in alloc; call]?)?;
-        assert_eq!(rt; step, Some(Step::SinkFailed));
+        let (ended, bytes) = segment(alloc, Vec::new(alloc), vec![in alloc; call]?)?;
+        assert_eq!(rt; ended, Err(CopyFault::Sink));
         assert!(rt; bytes.len() == written && SEGMENT.starts_with(&bytes));
     }
     for (call, written) in [(1, 152), (2, 162)] {
-        let (step, bytes) = segment(alloc, vec![in alloc; call]?, Vec::new(alloc))?;
-        assert_eq!(rt; step, Some(Step::StoreFailed));
+        let (ended, bytes) = segment(alloc, vec![in alloc; call]?, Vec::new(alloc))?;
+        assert_eq!(rt; ended, Err(CopyFault::Store));
         assert!(rt; bytes.len() == written && SEGMENT.starts_with(&bytes));
     }
     Ok(())

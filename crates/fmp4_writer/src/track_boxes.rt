@@ -1,7 +1,7 @@
 // The boxes of a movie without samples.
-ghost use Rattle.std.specs.Prelude.{◌≡◌, ◌+◌, ◌*◌, ◌≤◌, ◌++◌, length, codes, OnOk};
+ghost use Rattle.std.specs.Prelude.{◌≡◌, ◌+◌, ◌*◌, ◌≤◌, ◌++◌, length, OnOk};
 ghost use Rattle.vod_bytes.specs.Fields.{be32};
-ghost use Rattle.media_model.specs.InitSegment.{unity_matrix, movie_header, track_number, volume, track_header, media_header, handler_type, handler, kind_header, data_information, payload_place, with_data_reference, sample_table, track, track_defaults};
+ghost use Rattle.media_model.specs.InitSegment.{unity_matrix, movie_header, volume, track_header, media_header, handler, kind_header, data_information, payload_place, with_data_reference, sample_table, track, track_defaults};
 ghost use Rattle.fmp4_writer.specs.Entry.{IsEntry, beside};
 
 use crate::front::number_of;

@@ -1,64 +1,40 @@
 -- Init segments: the piece of a part, and what is answered and read in each case.
-use Rattle.std.proofs.Common.{◌≡◌, ◌≢◌, ℕ, zero, suc, ◌+◌, ◌-◌, ◌<◌, ◌≤◌, List, [], ◌∷◌, drop, length, slice_get, take, Option, Some, None, IfOk, IfErr, Result, Ok, Err, refl, sym, ap, ◌∙◌, append-nil, arith, subst}
-use Rattle.std.specs.Prelude.{ok_or, option_map}
+use Rattle.std.proofs.Common.{◌≡◌, ℕ, zero, suc, ◌+◌, ◌-◌, ◌<◌, List, [], ◌∷◌, drop, length, slice_get, take, Option, Some, None, IfOk, IfErr, Result, Ok, Err, refl, sym, ap, ◌∙◌, append-nil, arith, subst}
+use Rattle.std.specs.Prelude.{option_map}
 use Rattle.std.specs.Option.{option_map_or}
-use Rattle.std.specs.Result.{result_map_both}
 use Rattle.std.proofs.lemmas.Option.{same_Some}
 use Rattle.vod_types.specs.declared.refusal.Refusal.{Refusal}
-use Rattle.vod_types.specs.declared.refusal.Refusal.TheVariants.{NoMemory, StoreFailed, NoPart, EmptyPart, NoTrack}
+use Rattle.vod_types.specs.declared.refusal.Refusal.TheVariants.{NoMemory, NoPart, EmptyPart}
 use Rattle.vod_types.specs.declared.tracks.Asked.{Asked}
-use Rattle.vod_types.specs.declared.tracks.Kind.{Kind}
-use Rattle.vod_types.specs.declared.tracks.TrackName.{TrackName}
 use Rattle.vod_types.specs.Lists.{nth_from_one}
 use Rattle.vod_types.specs.Results.{◌>>=◌, Answers}
-use Rattle.vod_types.specs.Tracks.{exposed_track}
-use Rattle.mp4_model.specs.declared.TrackFault.{TrackFault}
-use Rattle.mp4_model.specs.declared.TrackFault.TheVariants as faults
-use Rattle.mp4_model.specs.GoodTracks.{GoodTrack, track_fault_in_file, track_view}
 use Rattle.mp4_model.specs.Movie.{Movie}
 use Rattle.mp4_tracks.specs.declared.views.TrackView.{TrackView}
 use Rattle.mp4_tracks.specs.Views.{good_of}
 use Rattle.media_model.specs.InitSegment.{init_segment}
 use Rattle.clip_model.specs.declared.Part.{Part}
 use Rattle.clip_model.specs.declared.Piece.{Piece}
-use Rattle.clip_model.specs.IsTimeline.{Follow}
 use Rattle.clip_model.specs.Timeline.{Timeline}
 use Rattle.vod_source.specs.Stored.{Files, Read}
 use Rattle.vod_source.specs.Told.{told_with}
 use Rattle.origin_model.specs.Bodies.{init_body}
-use Rattle.origin_model.specs.Loaded.{asked_track, checked, file_has, loaded, refusal_of_track, shown_track, track_of_kind}
+use Rattle.origin_model.specs.Loaded.{loaded}
 use Rattle.origin_model.specs.Reads.{turn, turns}
 use Rattle.origin_model.specs.Requests.{first_piece, init_piece}
-use Rattle.mp4_flat.specs.declared.tracks.CheckedTracks.{CheckedTracks}
+use Rattle.flat_samples.specs.declared.tracks.CheckedTracks.{CheckedTracks}
 use Rattle.mp4_flat.specs.Asked.{init_names, part_init}
-use Rattle.mp4_flat.specs.Calls.{Came, LogsReads}
-use Rattle.mp4_flat.specs.Checks.{checked_in, checked_view}
+use Rattle.flat_samples.specs.Calls.{Came, LogsReads}
+use Rattle.flat_samples.specs.Checks.{checked_in, checked_view}
 use Rattle.mp4_flat.specs.Inits.{init_in_movie, init_of_tracks, piece_init}
-use Rattle.mp4_flat.specs.Movies.{AreTrue, HeldMovie, IsTurn, names_held}
-use Rattle.mp4_flat.proofs.CameLemmas.{NotFailed, came-read, came-unread, not_failed-found, not_failed-step}
+use Rattle.flat_samples.specs.Movies.{AreTrue, HeldMovie, IsTurn, names_held}
+use Rattle.flat_samples.proofs.CheckLemmas.{checked-in, not_loaded}
+use Rattle.flat_samples.proofs.Comings.{came-read, came-unread}
 
 -- ---- the first piece of a part
 
 pub nth-from : {X : Type 0} (xs : List X) (n : ℕ) → 0 < n → nth_from_one xs n ≡ slice_get xs (n - 1)
 nth-from xs zero some = absurd (omega (arith, some))
 nth-from xs (suc i) some = let same : suc i - 1 ≡ i = omega arith in rw same refl
-
-pub follow-order : (at : ℕ) (parts : List Part) (end : ℕ) → Follow at parts end → at ≤ end
-follow-order at [] end f = omega (arith, f)
-follow-order at (p ∷ parts) end f = omega (arith, follow-order (at + p.count) parts end f.1)
-
-follow-within : (at : ℕ) (parts : List Part) (end i : ℕ) (part : Part) → Follow at parts end → slice_get parts i ≡ Some part → part.first + part.count ≤ end
-follow-within at [] end i part f e = absurd cc
-follow-within at (p ∷ parts) end zero part f e =
-    let same : p ≡ part = same_Some p part e in
-    let P : Part → Type 0 = λ q. q.first + q.count ≤ end in
-    subst P same (omega (arith, f.0, follow-order (at + p.count) parts end f.1))
-follow-within at (p ∷ parts) end (suc i) part f e = follow-within (at + p.count) parts end i part f.1 e
-
--- the pieces of a part lie among those of the timeline
-pub part-within : (parts : List Part) (end number : ℕ) (part : Part) → Follow 0 parts end → Some part ≡ nth_from_one parts number → part.first + part.count ≤ end
-part-within parts end zero part f e = absurd cc
-part-within parts end (suc i) part f e = follow-within 0 parts end i part f (sym e)
 
 first-taken : (number : ℕ) (pieces : List Piece) (at n : ℕ) (piece : Piece) → 0 < n → slice_get pieces at ≡ Some piece → first_piece number (take n (drop at pieces)) ≡ Ok piece
 first-taken number pieces at zero piece some e = absurd (omega (arith, some))
@@ -84,38 +60,7 @@ module _ (t : Timeline) (number : ℕ) where
       let width : part.first + part.count - part.first ≡ part.count = omega arith in
       rw (sym e, width) (first-taken number t.pieces part.first part.count piece some first)
 
--- ---- tracks
-
-track-not_failed : (name : List ℕ) (asked : TrackName) (fault : TrackFault) → refusal_of_track name asked fault ≢ StoreFailed
-track-not_failed name asked faults.Absent e = cc
-track-not_failed name asked (faults.Box at) e = cc
-track-not_failed name asked (faults.Table table) e = cc
-track-not_failed name asked (faults.Codec kind) e = cc
-track-not_failed name asked faults.TooLong e = cc
-
-shown-not_failed : (name : List ℕ) (asked : TrackName) (placed : TrackFault → TrackFault) (r : Result GoodTrack TrackFault)
-    → NotFailed (result_map_both (λ t. t) (λ fault. refusal_of_track name asked (placed fault)) r)
-shown-not_failed name asked placed (Ok t) = tt
-shown-not_failed name asked placed (Err fault) = track-not_failed name asked (placed fault)
-
-no_track : (name : List ℕ) (asked : TrackName) → NoTrack name asked ≢ StoreFailed
-no_track name asked e = cc
-
-shown_track-not_failed : (piece : Piece) (m : Movie) (asked : TrackName) → NotFailed (shown_track piece m asked)
-unfolding shown_track
-shown_track-not_failed piece m asked =
-    not_failed-step (ok_or (exposed_track (file_has m) piece.tracks asked) (NoTrack piece.name asked)) _ (not_failed-found _ _ (no_track piece.name asked))
-    (λ track. shown-not_failed piece.name asked (track_fault_in_file m.place.at) (track_view m.tracks track))
-
-asked_track-not_failed : (piece : Piece) (m : Movie) (kind : Kind) (asked : Option ℕ) → NotFailed (asked_track piece m kind asked)
-unfolding asked_track
-asked_track-not_failed piece m kind None = tt
-asked_track-not_failed piece m kind (Some number) =
-    not_failed-step (shown_track piece m (track_of_kind kind number)) _ (shown_track-not_failed piece m (track_of_kind kind number)) (λ track. tt)
-
-pub checked_in-not_failed : (asked : Asked) (piece : Piece) (m : Movie) → NotFailed (checked_in asked piece m)
-unfolding checked_in
-checked_in-not_failed asked piece m = search (not_failed-step, asked_track-not_failed) depth 12
+-- ---- what is written
 
 -- the init segment of views is that of the tracks that they show
 init_body-shown : (video audio : Option TrackView)
@@ -139,17 +84,9 @@ written-answers view asked piece m c (Err r) e bytes only = λ other. absurd (ot
 
 -- ---- the piece
 
-not_loaded : {Y : Type 0} (r : Result Movie Refusal) (f : Movie → Result Y Refusal) (e : Refusal) → ◌≡◌ {A = Result (Unit {0}) Refusal} (r >>= λ m. Ok tt) (Err e) → (r >>= f) ≡ Err e
-not_loaded (Ok m) f e is = absurd cc
-not_loaded (Err d) f e is = cc
-
 module _ {X : Type 0} (view : X → List ℕ) (files : Files) (asked : Asked) (piece : Piece) (log : Option (List Read)) where
-  checked-by : checked files asked piece ≡ (loaded files piece.name >>= checked_in asked piece)
-  unfolding checked checked_in
-  checked-by = refl
-
   piece_init-by : piece_init files asked piece ≡ (loaded files piece.name >>= λ m. init_in_movie asked piece m)
-  piece_init-by = rw checked-by (chained (loaded files piece.name))
+  piece_init-by = rw (checked-in files asked piece) (chained (loaded files piece.name))
     where
       chained : (r : Result Movie Refusal) → (r >>= checked_in asked piece >>= λ c. Ok (init_body c)) ≡ (r >>= λ m. init_in_movie asked piece m)
       chained (Ok m) = refl

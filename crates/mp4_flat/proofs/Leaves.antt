@@ -19,6 +19,7 @@ use Rattle.vod_types.specs.declared.tracks.Kind.{Kind}
 use Rattle.vod_types.specs.declared.tracks.Kind.TheVariants.{Video, Audio}
 use Rattle.vod_types.specs.Results.{◌>>=◌, Answers}
 use Rattle.vod_types.specs.SegmentRows.{SegmentRows, sample_bytes}
+use Rattle.vod_types.proofs.StepLemmas.{ok_or_ok}
 use Rattle.clip_model.specs.declared.Piece.{Piece}
 use Rattle.vod_types.specs.declared.paths.Window.{Window}
 use Rattle.vod_types.specs.declared.tracks.TrackName.{TrackName}
@@ -44,14 +45,13 @@ use Rattle.origin_model.specs.Requests.{Setup, Asking, asking_of, cutting, init_
 use Rattle.origin_model.proofs.Askings.{ask_in-range}
 use Rattle.mp4_flat.specs.Asked.{init_names, part_init}
 use Rattle.mp4_flat.specs.Built.{built_paths, is_built_leaf}
-use Rattle.mp4_flat.specs.Calls.{AnswersUnlessFailed, LogsReads, Came}
+use Rattle.flat_samples.specs.Calls.{AnswersUnlessFailed, LogsReads, Came}
 use Rattle.mp4_flat.specs.Flat.{IsAskAnswer, IsFlatAnswer, IsLeafAnswer, flat_seen, flat_shown, leaf_reads}
-use Rattle.mp4_flat.specs.Planned.{cutting_of, segment_turns}
-use Rattle.mp4_flat.specs.Segments.{flat_rows_view}
+use Rattle.flat_segments.specs.Planned.{cutting_of, segment_turns}
+use Rattle.flat_segments.specs.Segments.{flat_rows_view}
 use Rattle.mp4_flat.specs.declared.requests.FlatBody.{FlatBody}
-use Rattle.mp4_flat.specs.declared.rows.FlatRows.{FlatRows}
-use Rattle.mp4_flat.proofs.CameLemmas.{NotFailed, not_failed-found, not_failed-step, refusal-not_failed}
-use Rattle.mp4_flat.proofs.Comings.{logs_ended, logs_then, logs_unmade, LogsErr}
+use Rattle.flat_segments.specs.declared.rows.FlatRows.{FlatRows}
+use Rattle.flat_samples.proofs.Comings.{NotFailed, not_failed-found, not_failed-step, refusal-not_failed, logs_ended, logs_then, logs_unmade, LogsErr}
 
 -- ---- calls, one after another
 
@@ -190,13 +190,6 @@ module _ (o : Setup) (a : Asking) (sequence : ℕ) where
           (λ known_memory known_store. ap₂ (λ (xs ys : List Read). xs ++ ys)
           (segment_turned ∙ ap (λ (r : Result Timeline Refusal). (turns o.files [] (map (λ p. p.name) (pieces_or_none (r >>= looks_due)))).reads) (h known_memory) ∙ no_turns o.files)
           (segment_sampled ∙ ap (λ (r : Result Timeline Refusal). result_unwrap_or ((r >>= rows_due) >>= samples_due) []) (h known_memory)));
-    }
-
-    -- memory ran out before anything was read
-    pub segment_unmade : (log : Option (List Read)) → IsLeafAnswer o a segment_leaf (Err NoMemory) log log
-    segment_unmade log = record {
-      answered = λ known_memory known_store. absurd (known_memory refl);
-      logged = logs_unmade NoMemory (leaf_reads o a segment_leaf) log log refl (λ known_memory known_store. absurd (known_memory refl));
     }
 
     module _ (t : Timeline) (timed : times ≡ Ok t) where
@@ -341,23 +334,16 @@ module _ (o : Setup) (path : List ℕ) where
       by_ask None e is = readable_none e ∙ cc
       by_ask (Some ask) e is = absurd cc
 
-  asked : (ask : Ask) → ok_or (ask_of path) refusals.BadPath ≡ Ok ask → ask_of path ≡ Some ask
-  asked ask read = by_ask (ask_of path) refl read
-    where
-      by_ask : (found : Option Ask) → ask_of path ≡ found → ok_or found refusals.BadPath ≡ Ok ask → ask_of path ≡ Some ask
-      by_ask None e is = absurd cc
-      by_ask (Some other) e is = let same : other ≡ ask = cc in e ∙ ap Some same
-
   -- its form isn't built
   pub form_refused : (ask : Ask) (r : Refusal) (log : Option (List Read)) → ok_or (ask_of path) refusals.BadPath ≡ Ok ask → false ≡ built_paths ask → (r ≢ NoMemory → r ≡ refusals.Unsupported (codes "form"))
       → IsFlatAnswer built_paths o path (Err r) log log
-  form_refused ask r log read b h = unread r log (λ known_memory. readable_unbuilt ask (asked ask read) (sym b) ∙ ap Err (sym (h known_memory)))
+  form_refused ask r log read b h = unread r log (λ known_memory. readable_unbuilt ask (ok_or_ok (ask_of path) refusals.BadPath ask read) (sym b) ∙ ap Err (sym (h known_memory)))
 
   -- its form is built
   pub path_answered : (ask : Ask) (r : Result FlatBody Refusal) (log log_now : Option (List Read)) → ok_or (ask_of path) refusals.BadPath ≡ Ok ask → true ≡ built_paths ask → IsAskAnswer o ask r log log_now → IsFlatAnswer built_paths o path r log log_now
   unfolding answer path_reads
   path_answered ask r log log_now read b came =
-      let is : readable built_paths path ≡ Ok ask = readable_built ask (asked ask read) (sym b) in
+      let is : readable built_paths path ≡ Ok ask = readable_built ask (ok_or_ok (ask_of path) refusals.BadPath ask read) (sym b) in
       record {
         answered = subst (AnswersUnlessFailed flat_shown r) (sym (ap (λ (x : Result Ask Refusal). flat_seen (x >>= ask_answer o)) is)) came.answered;
         reads = ask_reads o [] true [] ask;
@@ -366,14 +352,14 @@ module _ (o : Setup) (path : List ℕ) where
       }
 
   pub built_is_readable : (ask : Ask) → ok_or (ask_of path) refusals.BadPath ≡ Ok ask → true ≡ built_paths ask → IsErr (readable built_paths path) → ⊥
-  built_is_readable ask read b err = by_readable (readable built_paths path) (readable_built ask (asked ask read) (sym b)) err
+  built_is_readable ask read b err = by_readable (readable built_paths path) (readable_built ask (ok_or_ok (ask_of path) refusals.BadPath ask read) (sym b)) err
     where
       by_readable : (r : Result Ask Refusal) → r ≡ Ok ask → IsErr r → ⊥
       by_readable (Ok found) e err = absurd cc
       by_readable (Err d) e err = absurd cc
 
   pub few_names : (ask : Ask) → ok_or (ask_of path) refusals.BadPath ≡ Ok ask → IsInRange 1 32 (length (target_names ask.target))
-  few_names ask read = (ask_in-range path ask (asked ask read)).names
+  few_names ask read = (ask_in-range path ask (ok_or_ok (ask_of path) refusals.BadPath ask read)).names
 
 pub timeline_refused : (root : List ℕ) (m : Mapping) (number : ℕ) (w : Window) (tracks : Option (List TrackName)) (r : Result Timeline Refusal) → Answers (λ t. t) r (timeline_of root m number w tracks) → IfErr r (λ refusal. refusal ≢ StoreFailed)
 timeline_refused root m number w tracks (Ok t) h = tt

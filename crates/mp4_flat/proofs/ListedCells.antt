@@ -22,12 +22,13 @@ use Rattle.segment_model.proofs.Marks.{seek, seek_rises, seek-le-length}
 use Rattle.mp4_flat.specs.declared.listed_part.Begin.{Begin}
 use Rattle.mp4_flat.specs.declared.listed_part.ListedPart.{ListedPart}
 use Rattle.mp4_flat.specs.declared.listed_row.Listed.{Listed}
-use Rattle.mp4_flat.specs.declared.samples.TimedSample.{TimedSample}
+use Rattle.flat_samples.specs.declared.samples.TimedSample.{TimedSample}
 use Rattle.mp4_flat.specs.ListedCells.{slices_view, other_from, counted, row_between, row_time, segment_between}
 use Rattle.mp4_flat.specs.Listings.{listed_view}
-use Rattle.mp4_flat.specs.Rows.{timed_view, part_grid_of, IsPlacedRow}
-use Rattle.mp4_flat.specs.Selection.{is_past}
-use Rattle.mp4_flat.proofs.CellRows.{position_or_len-map, unwrap_or-position}
+use Rattle.flat_samples.specs.Rows.{timed_view, IsPlacedRow}
+use Rattle.flat_segments.specs.Cells.{part_grid_of}
+use Rattle.flat_segments.specs.Cells.{is_past}
+use Rattle.flat_samples.proofs.ListViews.{position_or_len-map, unwrap_or-position}
 
 -- ---- a search from an earlier place on
 
@@ -184,9 +185,6 @@ module _ (g : PartGrid) (rows : TrackRows) where
   other_order : (s : ℤ) → PlaceRises s rows.lead → (i j : ℕ) → i ≤ j → other_from rows i ≤ other_from rows j
   other_order s rises i j le =
       position_le (λ r. is_from (slice_get rows.lead i) r.place) (λ r. is_from (slice_get rows.lead j) r.place) (λ r h. from_earlier s rows.lead i j r.place rises le h) rows.other
-
-  pub first_begin : (b : Begin) → (0 ≤ first_row g rows.lead 0 → b.lead ≡ first_row g rows.lead 0) → (0 ≤ other_from rows b.lead → b.other ≡ other_from rows b.lead) → IsBegin g rows 0 b
-  first_begin b lead other = record { lead = lead (omega arith); other = other (omega arith) ∙ ap (other_from rows) (lead (omega arith)) }
 
   pub next_begin : (s : ℤ) → PlaceRises s rows.lead → (k : ℕ) → k < g.cells → (from next : Begin) → IsBegin g rows k from
       → (from.lead ≤ first_row g rows.lead (k + 1) → next.lead ≡ first_row g rows.lead (k + 1)) → (from.other ≤ other_from rows next.lead → next.other ≡ other_from rows next.lead)

@@ -4,13 +4,13 @@ use Rattle.std.specs.Prelude.{nat_le, sum}
 use Rattle.std.specs.List.{AllByRecursion, position_or_len, range_with_len}
 use Rattle.std.proofs.lemmas.Bool.{le-leb, lt-leb}
 use Rattle.std.proofs.lemmas.List.{drop-map, take-map, length-map, map-append, take-append-le, take_all, drop_all}
-use Rattle.std.proofs.lemmas.List.Elements.{All-take, All-drop}
+use Rattle.std.proofs.lemmas.List.Elements.{All-drop}
 use Rattle.std.proofs.lemmas.List.Sums.{sum_by-cons}
 use Rattle.std.proofs.Math.Seq.{drop-append_seam}
 use Rattle.vod_types.specs.declared.tracks.Kind.{Kind}
 use Rattle.clip_model.specs.declared.Part.{Part}
 use Rattle.clip_model.specs.IsTimeline.{Follow}
-use Rattle.segment_model.specs.Cut.{listed, listed_from, listed_part}
+use Rattle.segment_model.specs.Cut.{listed_from, listed_part}
 use Rattle.segment_model.specs.Grid.{SegmentGrid, PartGrid, cell_counts, may_begin, part_grid}
 use Rattle.segment_model.specs.Laws.{AreTimelineRows, PlaceRises, behind, all_behind}
 use Rattle.segment_model.specs.Listing.{ListedSegment, segment_row, first_marked}
@@ -20,11 +20,11 @@ use Rattle.segment_model.specs.Timeline.{SourcePiece, TrackRows, lead_end, place
 use Rattle.segment_model.proofs.Segments.{listed_one_by_one}
 use Rattle.segment_model.proofs.TrackRowsLemmas.{same_rows}
 use Rattle.segment_model.proofs.Windows.{position_behind}
-use Rattle.mp4_flat.specs.declared.samples.TimedSample.{TimedSample}
-use Rattle.mp4_flat.specs.Rows.{timed_view, ArePlacedRows, IsPlacedRow}
-use Rattle.mp4_flat.specs.ListedParts.{rows_before, rows_from, part_over, AreRowsOfParts}
-use Rattle.mp4_flat.proofs.CellRows.{position_or_len-map, slice_range-map}
-use Rattle.mp4_flat.proofs.InitLemmas.{follow-order}
+use Rattle.flat_samples.specs.declared.samples.TimedSample.{TimedSample}
+use Rattle.flat_samples.specs.Rows.{timed_view, ArePlacedRows, IsPlacedRow}
+use Rattle.mp4_flat.specs.ListedParts.{rows_before, rows_from, part_over}
+use Rattle.flat_samples.proofs.ListViews.{position_or_len-map, slice_range-map}
+use Rattle.flat_segments.proofs.Places.{follow-order}
 use Rattle.mp4_flat.proofs.ListedCells.{counted_is, lone_row}
 
 -- ---- rows of pieces, one piece after another
@@ -229,10 +229,6 @@ pub record IsRest (grid : SegmentGrid) (align : Bool) (leads : Kind) (pieces : L
   pub all : out ++ listed_from leads grid align (suc place) number (map (part_over pieces) left) ≡ due
 
 module _ (grid : SegmentGrid) (align : Bool) (leads : Kind) (pieces : List SourcePiece) where
-  pub rest_whole : (parts : List Part) (counts : List ℕ) (rows : TrackRows) → AreRowsOfParts grid align parts counts rows pieces
-      → IsRest grid align leads pieces parts counts 0 1 rows [] (listed leads grid align (map (part_over pieces) parts))
-  rest_whole parts counts rows are = record { at = 0; follow = are.follow; rest_is = are.rows_are; counts_left = are.counts_are; all = refl }
-
   pub rest_none : (left : List Part) (counts : List ℕ) (place number : ℕ) (rest : TrackRows) (out due : List ListedSegment) → left ≡ [] → IsRest grid align leads pieces left counts place number rest out due → out ≡ due
   rest_none left counts place number rest out due e is =
       sym (append-nil out) ∙ ap (λ ps. out ++ listed_from leads grid align (suc place) number (map (part_over pieces) ps)) (sym e) ∙ is.all
@@ -346,9 +342,6 @@ sum_left counts place number all lt e =
     (omega (arith, left, more, e), omega (arith, left, more, e))
 
 -- ---- rows with small times
-
-pub placed_before : (place : ℕ) (rows : TrackRows) → ArePlacedRows rows → ArePlacedRows (rows_before place rows)
-placed_before place rows h = record { lead = All-take IsPlacedRow _ rows.lead h.lead; other = All-take IsPlacedRow _ rows.other h.other }
 
 pub placed_from : (place : ℕ) (rows : TrackRows) → ArePlacedRows rows → ArePlacedRows (rows_from place rows)
 placed_from place rows h = record { lead = All-drop IsPlacedRow _ rows.lead h.lead; other = All-drop IsPlacedRow _ rows.other h.other }

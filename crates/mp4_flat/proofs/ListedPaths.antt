@@ -8,9 +8,10 @@ use Rattle.vod_types.specs.declared.paths.Leaf.{Leaf}
 use Rattle.vod_types.specs.declared.paths.Leaf.TheVariants.{Index}
 use Rattle.vod_types.specs.declared.refusal.Refusal.{Refusal}
 use Rattle.vod_types.specs.declared.refusal.Refusal.TheVariants as refusals
-use Rattle.vod_types.specs.declared.refusal.Refusal.TheVariants.{NoMemory, StoreFailed}
+use Rattle.vod_types.specs.declared.refusal.Refusal.TheVariants.{NoMemory}
 use Rattle.vod_types.specs.declared.tracks.Asked.{Asked}
 use Rattle.vod_types.specs.Results.{◌>>=◌}
+use Rattle.vod_types.proofs.StepLemmas.{ok_or_ok}
 use Rattle.clip_model.specs.declared.Piece.{Piece}
 use Rattle.clip_model.specs.Timeline.{Timeline}
 use Rattle.segment_model.specs.Grid.{SegmentGrid}
@@ -25,10 +26,10 @@ use Rattle.origin_model.specs.Reads as reads
 use Rattle.origin_model.specs.Reads.{ask_reads, for_rows, further_names, looks_of, mapping_reads_by, path_reads, sample_reads, turn_names, turn_pieces, turns}
 use Rattle.origin_model.specs.Requests.{Setup, Asking, asking_of, cutting, timeline_asked}
 use Rattle.mp4_flat.specs.declared.listed_row.Listed.{Listed}
-use Rattle.mp4_flat.specs.Calls.{AnswersUnlessFailed, LogsReads, Came}
+use Rattle.flat_samples.specs.Calls.{AnswersUnlessFailed, LogsReads, Came}
 use Rattle.mp4_flat.specs.Listings.{AreListed, ask_rows, every_path, index_turns, listed_view, rows_turns}
-use Rattle.mp4_flat.specs.Planned.{cutting_of}
-use Rattle.mp4_flat.proofs.Comings.{logs_then, logs_unmade}
+use Rattle.flat_segments.specs.Planned.{cutting_of}
+use Rattle.flat_samples.proofs.Comings.{logs_then, logs_unmade}
 use Rattle.mp4_flat.proofs.Leaves.{ended}
 
 no_turns : (files : Files) → (turns files [] []).reads ≡ []
@@ -58,13 +59,6 @@ module _ {X : Type 0} (view : X → List ListedSegment) (o : Setup) (a : Asking)
     answered = λ known_memory known_store. sequence_due ∙ ap (λ (r : Result Timeline Refusal). r >>= planned_rows (cutting o a) asked) (h known_memory);
     logged = logs_unmade e (index_turns o a sequence asked) log log refl
         (λ known_memory known_store. sequence_turned ∙ ap (λ (r : Result Timeline Refusal). (turns o.files [] (map (λ p. p.name) (pieces_or_none (r >>= looks)))).reads) (h known_memory) ∙ no_turns o.files);
-  }
-
-  -- memory ran out before anything was read
-  pub sequence_unmade : (e : Refusal) (log : Option (List Read)) → e ≡ NoMemory → Came view (Err e) (listed_segments o a sequence asked) (index_turns o a sequence asked) log log
-  sequence_unmade e log is = record {
-    answered = λ known_memory known_store. absurd (known_memory is);
-    logged = logs_unmade e (index_turns o a sequence asked) log log refl (λ known_memory known_store. absurd (known_memory is));
   }
 
   pub sequence_timed : (t : Timeline) (g : SegmentGrid) (align : Bool) (result : Result X Refusal) (log log_now : Option (List Read)) → times ≡ Ok t → cutting_of o.files g align ≡ cutting o a
@@ -181,13 +175,6 @@ module _ {X : Type 0} (items : X → List Listed) (o : Setup) (path : List ℕ) 
       by_ask None is refused = (rows_none is ∙ cc, reads_none refusals.BadPath (readable_none is))
       by_ask (Some ask) is refused = absurd cc
 
-  asked_for : (ask : Ask) → ok_or (ask_of path) refusals.BadPath ≡ Ok ask → ask_of path ≡ Some ask
-  asked_for ask read = by_ask (ask_of path) refl read
-    where
-      by_ask : (found : Option Ask) → ask_of path ≡ found → ok_or found refusals.BadPath ≡ Ok ask → ask_of path ≡ Some ask
-      by_ask None e is = absurd cc
-      by_ask (Some other) e is = let same : other ≡ ask = cc in e ∙ ap Some same
-
   readable_other : (ask : Ask) → ask_of path ≡ Some ask → is_index ask.leaf ≡ false → (e : Refusal) × (readable (for_rows every_path) path ≡ Err e)
   unfolding readable_as
   readable_other ask e b = (refusals.Unsupported (codes "form"), rw (e, b) refl)
@@ -195,7 +182,7 @@ module _ {X : Type 0} (items : X → List Listed) (o : Setup) (path : List ℕ) 
   -- it is of another kind
   pub other_refused : (ask : Ask) (log : Option (List Read)) → ok_or (ask_of path) refusals.BadPath ≡ Ok ask → is_index ask.leaf ≡ false → AreListed o path (seen (Err refusals.BadPath)) log log
   other_refused ask log read other =
-      let is = asked_for ask read in
+      let is = ok_or_ok (ask_of path) refusals.BadPath ask read in
       let none = readable_other ask is other in
       unread refusals.BadPath log (λ known_memory. rows_other ask is other) (λ known_memory. reads_none none.0 none.1)
 
@@ -206,7 +193,7 @@ module _ {X : Type 0} (items : X → List Listed) (o : Setup) (path : List ℕ) 
   pub path_answered : (ask : Ask) (sequence : ℕ) (asked : Asked) (result : Result X Refusal) (log log_now : Option (List Read)) → ok_or (ask_of path) refusals.BadPath ≡ Ok ask → ask.leaf ≡ Index sequence asked
       → Came view result (ask_rows o ask sequence asked) (ask_reads o [] false [] ask) log log_now → AreListed o path (seen result) log log_now
   path_answered ask sequence asked result log log_now read leaf came =
-      let is = asked_for ask read in
+      let is = ok_or_ok (ask_of path) refusals.BadPath ask read in
       let all = reads_index ask (readable_index ask is (ap is_index leaf)) in
       listed_by result log log_now (record {
         answered = subst (AnswersUnlessFailed view result) (sym (rows_index ask sequence asked is leaf)) came.answered;

@@ -14,6 +14,7 @@ use Rattle.vod_types.specs.Lists.{through_first}
 use Rattle.vod_types.specs.Results.{◌>>=◌, Answers, each_in_turn, unless}
 use Rattle.vod_types.specs.Tracks.{lead_of}
 use Rattle.vod_types.proofs.StepLemmas.{bind_ok}
+use Rattle.vod_types.proofs.RuleLemmas.{same_ok}
 use Rattle.clip_model.specs.declared.Part.{Part}
 use Rattle.clip_model.specs.declared.Piece.{Piece}
 use Rattle.clip_model.specs.IsTimeline.{Follow, IsTime, IsTimeline, OpenLength}
@@ -34,18 +35,18 @@ use Rattle.origin_model.specs.Sources.{is_declared, part_pieces, source_of, sour
 use Rattle.origin_model.proofs.Entries.{planned_rows-whole}
 use Rattle.origin_model.proofs.NeededFiles.{piece_of-checked}
 use Rattle.origin_model.proofs.PieceOrder.{undeclared_part}
-use Rattle.mp4_flat.specs.declared.needed.Needed.{Needed}
-use Rattle.mp4_flat.specs.Calls.{Came, LogsReads}
+use Rattle.flat_segments.specs.declared.needed.Needed.{Needed}
+use Rattle.flat_samples.specs.Calls.{Came, LogsReads}
 use Rattle.mp4_flat.specs.ListedParts.{part_over, AreRowsOfParts}
 use Rattle.mp4_flat.specs.Listings.{rows_turns}
-use Rattle.mp4_flat.specs.Needed.{AreLooks, AreNeeded, looked_names, stops}
-use Rattle.mp4_flat.specs.Planned.{cutting_of, declared_counts}
-use Rattle.mp4_flat.specs.Rows.{part_rows, IsPlacedRow}
-use Rattle.mp4_flat.proofs.CameLemmas.{came-read, came-unread}
-use Rattle.mp4_flat.proofs.CellRows.{slice_range-map}
-use Rattle.mp4_flat.proofs.InitLemmas.{follow-order}
-use Rattle.mp4_flat.proofs.Ordered.{pieces_from_zero}
-use Rattle.mp4_flat.proofs.SegmentCalls.{counts_are, count_low, one_low, seen_none, sources_are}
+use Rattle.flat_segments.specs.Needed.{AreLooks, AreNeeded, looked_names, stops}
+use Rattle.flat_segments.specs.Planned.{cutting_of, declared_counts}
+use Rattle.flat_samples.specs.Rows.{part_rows, IsPlacedRow}
+use Rattle.flat_samples.proofs.Comings.{came-read, came-unread}
+use Rattle.flat_samples.proofs.ListViews.{slice_range-map}
+use Rattle.flat_segments.proofs.Places.{follow-order}
+use Rattle.flat_segments.proofs.Ordered.{pieces_from_zero}
+use Rattle.flat_segments.proofs.SegmentCalls.{counts_are, count_low, one_low, seen_none, sources_are}
 
 -- ---- few cells, or too many
 
@@ -97,9 +98,6 @@ rows_of_parts g align t ps ns n rows all h parts_are rows_are of needed counts_a
 
 -- ---- checked pieces
 
-ok_same : {A E : Type 0} (x y : A) → ◌≡◌ {A = Result A E} (Ok x) (Ok y) → x ≡ y
-ok_same x y e = cc
-
 pub ok_all : {A E : Type 0} (r : Result A E) (P Q : A → Type 0) → IfOk r P → ((x : A) → P x → Q x) → IfOk r Q
 ok_all (Ok x) P Q h all = all x h
 ok_all (Err e) P Q h all = tt
@@ -109,11 +107,11 @@ module _ (known : Files) (asked : Asked) where
   piece_is p c e = ap (λ r. (result_unwrap_or r (unread_piece p)).piece) (sym e) ∙ piece_of-checked known asked p
 
   pub pieces_are : (ps : List Piece) (cs : List CheckedPiece) → each_in_turn (checked known asked) ps ≡ Ok cs → map (λ c. c.piece) cs ≡ ps
-  pieces_are [] cs e = ap (map (λ c. c.piece)) (let none : cs ≡ [] = sym (ok_same [] cs e) in none)
+  pieces_are [] cs e = ap (map (λ c. c.piece)) (let none : cs ≡ [] = sym (same_ok [] cs e) in none)
   pieces_are (p ∷ ps) cs e =
       let first = bind_ok (checked known asked p) (λ c. each_in_turn (checked known asked) ps >>= λ ds. Ok (c ∷ ds)) cs e in
       let rest = bind_ok (each_in_turn (checked known asked) ps) (λ ds. Ok (first.0 ∷ ds)) cs first.2 in
-      ap (map (λ c. c.piece)) (sym (ok_same (first.0 ∷ rest.0) cs rest.2)) ∙ ap₂ (λ (q : Piece) (qs : List Piece). q ∷ qs) (piece_is p first.0 first.1) (pieces_are ps rest.0 rest.1)
+      ap (map (λ c. c.piece)) (sym (same_ok (first.0 ∷ rest.0) cs rest.2)) ∙ ap₂ (λ (q : Piece) (qs : List Piece). q ∷ qs) (piece_is p first.0 first.1) (pieces_are ps rest.0 rest.1)
 
   pub looks_at_all : (shown pieces : List Piece) (result : Result Needed Refusal) (log log_now : Option (List Read)) → shown ≡ pieces → AreLooks known asked (through_first (stops known asked None) shown) result log log_now
       → AreLooks known asked pieces result log log_now

@@ -10,8 +10,8 @@ use Rattle.clip_model.specs.declared.Piece.{Piece}
 use Rattle.vod_source.specs.Stored.{Files}
 use Rattle.origin_model.specs.Bodies.{init_body}
 use Rattle.origin_model.specs.Loaded.{checked}
-use Rattle.mp4_flat.specs.declared.tracks.CheckedTracks.{CheckedTracks}
-use Rattle.mp4_flat.specs.Checks.{checked_in}
+use Rattle.flat_samples.specs.declared.tracks.CheckedTracks.{CheckedTracks}
+use Rattle.flat_samples.specs.Checks.{checked_in}
 
 -- the init segment of the asked tracks of a piece, or its first refusal
 abbrev pub piece_init : Files → Asked → Piece → Result (List ℕ) Refusal

@@ -9,7 +9,7 @@ use Rattle.segment_model.specs.Lone.{is_from, time_of}
 use Rattle.segment_model.specs.Timeline.{TrackRows, lead_end}
 use Rattle.mp4_flat.specs.declared.listed_part.Begin.{Begin}
 use Rattle.mp4_flat.specs.declared.listed_part.RowSlices.{RowSlices}
-use Rattle.mp4_flat.specs.Rows.{timed_view}
+use Rattle.flat_samples.specs.Rows.{timed_view}
 
 abbrev pub slices_view : RowSlices → TrackRows
 slices_view r = record { lead = map timed_view r.lead.now; other = map timed_view r.other.now }

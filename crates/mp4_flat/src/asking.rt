@@ -13,12 +13,12 @@ ghost use Rattle.list_model.specs.Path.{is_local as is_local_place};
 ghost use Rattle.origin_model.specs.Reads.{mapping_reads_by};
 ghost use Rattle.origin_model.specs.Requests.{asking_of as asking_of_ask, mapping_by as mapping_by_target, mapping_file as mapping_of_file, target_names};
 ghost use Rattle.mp4_flat.specs.Asked.{asking_view, setup_of};
-ghost use Rattle.mp4_flat.specs.Calls.{Came};
+ghost use Rattle.flat_samples.specs.Calls.{Came};
 ghost use Rattle.mp4_flat.specs.Mapped.{mapping_file_reads};
 
 use clip_map::{Mapping, read_mapping};
+use seq_timeline::store_name;
 use std::alloc::Global;
-use std::string::String;
 use vod_source::{ReadFault, Store, read_range};
 use vod_types::{Ask, Name, Place, Refusal, Target, TrackList, Window};
 
@@ -130,17 +130,6 @@ fn names_of(alloc: Global, target: Target) -> Result<Vec<Name>, Refusal>
         }
         Target::Many(names) => Ok(names.into_vec()),
     }
-}
-
-// The store's name of a file: the root, `/` and the file's name. The only refusal is `NoMemory`.
-fn store_name(alloc: Global, root: &str, name: &Name) -> Result<Name, Refusal>
-    ensures name { IfOk result (λ stored. stored ≡ store_name_of root.now name.now) }
-    ensures only { IfErr result (λ refusal. refusal ≡ NoMemory) }
-{
-    let mut text = String::from_str(alloc, root)?;
-    text.push_str("/")?;
-    text.push_str(name.as_str())?;
-    Name::new(alloc, text.as_str())
 }
 
 // The mapping in a file of this name below `root`.

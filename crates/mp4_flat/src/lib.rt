@@ -3,25 +3,13 @@
 #![tactic(auto)]
 
 mod asking;
-mod cells;
-mod facts;
-mod fragment;
 mod init;
 mod listed_part;
 mod listed_parts;
 mod listed_row;
 mod listed_timeline;
 mod listing;
-mod movies;
-mod needed;
 mod requests;
-mod row_checks;
-mod rows;
-mod samples;
-mod segment;
-mod selection;
-mod tables;
-mod tracks;
 
 pub use listed_row::Listed;
 pub use listing::listed;

@@ -6,15 +6,15 @@ ghost use Rattle.vod_types.specs.declared.refusal.Refusal.TheVariants.{NoMemory}
 ghost use Rattle.clip_model.specs.IsTimeline.{IsTime};
 ghost use Rattle.segment_model.specs.Laws.{PlaceRises};
 ghost use Rattle.segment_model.specs.Lone.{first_row, lone_segments};
-ghost use Rattle.segmenter.specs.Ranges.{HasRanges};
 ghost use Rattle.mp4_flat.specs.ListedCells.{slices_view, other_from, counted, row_time, segment_between};
 ghost use Rattle.mp4_flat.specs.Listings.{listed_view};
-ghost use Rattle.mp4_flat.specs.Rows.{part_grid_of, ArePlacedRows};
-ghost use Rattle.mp4_flat.specs.Selection.{is_past as is_past_of};
+ghost use Rattle.flat_segments.specs.Cells.{part_grid_of};
+ghost use Rattle.flat_samples.specs.Rows.{ArePlacedRows};
+ghost use Rattle.flat_segments.specs.Cells.{is_past as is_past_of};
 
-use crate::cells::{PartCells, end_of_lead, is_past, time_at};
 use crate::listed_row::Listed;
-use crate::samples::TimedSample;
+use flat_samples::TimedSample;
+use flat_segments::{PartCells, end_of_lead, is_past, time_at};
 use vod_types::{Kind, Refusal, SegmentRow};
 
 /// Samples of the lead track and of the other asked track, in order.
@@ -47,7 +47,6 @@ impl ListedPart<'_> {
     pub(crate) fn list(&self, out: &mut Vec<Listed>) -> Result<(), Refusal>
         requires few { self.now.cells.cells ≤ 100000 }
         requires numbers { self.now.number + self.now.cells.cells < 2 ^ 32 }
-        requires grid { HasRanges self.now.cells.grid.now }
         requires start { IsTime self.now.cells.start }
         requires placed { ArePlacedRows (slices_view self.now.rows) }
         ensures listed { OnOk result ((s : ℤ) → PlaceRises s (slices_view self.now.rows).lead → PlaceRises s (slices_view self.now.rows).other →
@@ -127,7 +126,6 @@ impl ListedPart<'_> {
     // Where a cell begins, if that isn't before where an earlier one does.
     fn begin(&self, k: u64, earlier: Begin) -> Begin
         requires few { k ≤ 100001 }
-        requires grid { HasRanges self.now.cells.grid.now }
         requires start { IsTime self.now.cells.start }
         requires lead { earlier.lead ≤ length self.now.rows.lead.now }
         requires other { earlier.other ≤ length self.now.rows.other.now }
@@ -145,7 +143,6 @@ impl ListedPart<'_> {
     // The index of the first lead row of a cell, if that isn't before an earlier one.
     fn first_lead(&self, k: u64, earlier: usize) -> usize
         requires few { k ≤ 100001 }
-        requires grid { HasRanges self.now.cells.grid.now }
         requires start { IsTime self.now.cells.start }
         requires earlier { earlier ≤ length self.now.rows.lead.now }
         ensures within { result ≤ length self.now.rows.lead.now }

@@ -1,22 +1,21 @@
 //! The listed segments of the parts of a sequence.
 
-ghost use Rattle.std.specs.Prelude.{List, ◌≡◌, ◌+◌, ◌≤◌, All, IfErr, IfOk, drop, length, map, nat_le, sum, take};
+ghost use Rattle.std.specs.Prelude.{List, ◌≡◌, ◌+◌, ◌≤◌, All, IfErr, IfOk, length, map, nat_le, sum};
 ghost use Rattle.std.specs.List.{position, position_or_len};
 ghost use Rattle.vod_types.specs.declared.refusal.Refusal.TheVariants.{NoMemory};
 ghost use Rattle.clip_model.specs.IsTimeline.{IsPart};
 ghost use Rattle.segment_model.specs.Cut.{listed};
 ghost use Rattle.segment_model.specs.Timeline.{SourcePiece};
-ghost use Rattle.segmenter.specs.Ranges.{HasRanges};
 ghost use Rattle.mp4_flat.specs.ListedCells.{slices_view};
 ghost use Rattle.mp4_flat.specs.ListedParts.{rows_before, rows_from, part_over, AreRowsOfParts};
 ghost use Rattle.mp4_flat.specs.Listings.{listed_view};
-ghost use Rattle.mp4_flat.specs.Rows.{ArePlacedRows};
+ghost use Rattle.flat_samples.specs.Rows.{ArePlacedRows};
 
 use crate::listed_part::{ListedPart, RowSlices};
 use crate::listed_row::Listed;
-use crate::samples::TimedSample;
-use crate::segment::Cut;
 use clip_model::Part;
+use flat_samples::TimedSample;
+use flat_segments::Cut;
 use std::alloc::Global;
 use vod_types::{Kind, Refusal};
 
@@ -35,7 +34,6 @@ pub(crate) fn list_parts(
     requires places { All (λ part. part.first + part.count ≤ 1024) parts.now }
     requires counts { length counts.now ≡ length parts.now }
     requires few { sum counts.now ≤ 100000 }
-    requires grid { HasRanges cut.grid.now }
     requires placed { ArePlacedRows (slices_view rows) }
     ensures listed { IfOk result (λ out. (pieces : List SourcePiece) → AreRowsOfParts cut.entry.grid.now cut.entry.align parts.now counts.now (slices_view rows.entry) pieces →
         map listed_view out.items ≡ listed leads cut.entry.grid.now cut.entry.align (map (part_over pieces) parts.now)) }

@@ -6,25 +6,24 @@ ghost use Rattle.vod_types.specs.Tracks.{lead_of as lead_of_asked};
 ghost use Rattle.clip_model.specs.IsTimeline.{IsPiece};
 ghost use Rattle.segment_model.specs.Cut.{listed};
 ghost use Rattle.segment_model.specs.Grid.{cell_counts};
-ghost use Rattle.segmenter.specs.Ranges.{HasRanges};
 ghost use Rattle.vod_source.specs.Causes.{Rose};
 ghost use Rattle.origin_model.specs.Loaded.{CheckedPiece};
 ghost use Rattle.origin_model.specs.Plans.{few_cells as few_cells_of, planned_rows};
 ghost use Rattle.origin_model.specs.Sources.{is_declared, source_piece};
-ghost use Rattle.mp4_flat.specs.Calls.{Came};
+ghost use Rattle.flat_samples.specs.Calls.{Came};
 ghost use Rattle.mp4_flat.specs.ListedParts.{part_over};
 ghost use Rattle.mp4_flat.specs.Listings.{listed_view, rows_turns};
-ghost use Rattle.mp4_flat.specs.Needed.{AreLooks, AreNeeded, AreOfPieces};
-ghost use Rattle.mp4_flat.specs.Planned.{cutting_of};
-ghost use Rattle.mp4_flat.specs.Rows.{part_rows, ArePlacedRows};
+ghost use Rattle.flat_segments.specs.Needed.{AreLooks, AreNeeded};
+ghost use Rattle.flat_segments.specs.Planned.{cutting_of};
+ghost use Rattle.flat_samples.specs.Rows.{part_rows, ArePlacedRows};
 
-use crate::cells::length_of;
 use crate::listed_part::RowSlices;
 use crate::listed_parts::list_parts;
 use crate::listed_row::Listed;
-use crate::needed::{Needed, needed_of};
-use crate::segment::{Cut, counts_of, is_declared, part_at, parts_of, sum_of};
 use clip_model::Piece;
+use flat_segments::{
+    Cut, Needed, counts_of, is_declared, length_of, needed_of, part_at, parts_of, sum_of,
+};
 use segmenter::cells;
 use seq_timeline::Timeline;
 use std::alloc::Global;
@@ -41,7 +40,6 @@ pub(crate) fn timeline_rows<S: Store>(
     cut: Cut<'_>,
     asked: Asked,
 ) -> Result<Vec<Listed>, Refusal>
-    requires grid { HasRanges cut.grid.now }
     ensures told { IfSome (S.content files.old) (λ known.
         Came (λ rows. map listed_view rows.items) result (planned_rows (cutting_of known cut.entry.grid.now cut.entry.align) asked cut.entry.timeline.now)
         (rows_turns (cutting_of known cut.entry.grid.now cut.entry.align) asked cut.entry.timeline.now) (S.log files.old) (S.log files.new)) }
@@ -64,7 +62,6 @@ fn declared_rows<S: Store>(
     asked: Asked,
 ) -> Result<Vec<Listed>, Refusal>
     requires declared { is_declared cut.timeline.now ≡ true }
-    requires grid { HasRanges cut.grid.now }
     ensures told { IfSome (S.content files.old) (λ known.
         Came (λ rows. map listed_view rows.items) result (planned_rows (cutting_of known cut.entry.grid.now cut.entry.align) asked cut.entry.timeline.now)
         (rows_turns (cutting_of known cut.entry.grid.now cut.entry.align) asked cut.entry.timeline.now) (S.log files.old) (S.log files.new)) }
@@ -94,7 +91,6 @@ fn open_rows<S: Store>(
     asked: Asked,
 ) -> Result<Vec<Listed>, Refusal>
     requires declared { is_declared cut.timeline.now ≡ false }
-    requires grid { HasRanges cut.grid.now }
     ensures told { IfSome (S.content files.old) (λ known.
         Came (λ rows. map listed_view rows.items) result (planned_rows (cutting_of known cut.entry.grid.now cut.entry.align) asked cut.entry.timeline.now)
         (rows_turns (cutting_of known cut.entry.grid.now cut.entry.align) asked cut.entry.timeline.now) (S.log files.old) (S.log files.new)) }
@@ -165,7 +161,6 @@ fn needed_rows(
 ) -> Result<Vec<Listed>, Refusal>
     requires counts { length counts.now ≡ length cut.timeline.now.parts }
     requires few { sum counts.now ≤ 100000 }
-    requires grid { HasRanges cut.grid.now }
     requires placed { ArePlacedRows (part_rows needed.now.rows) }
     ensures listed { IfOk result (λ out. (all : List CheckedPiece) → map (λ c. c.piece) all ≡ cut.entry.timeline.now.pieces → AreNeeded all needed.now →
         counts.now ≡ cell_counts cut.entry.grid.now cut.entry.align (map (part_over (map source_piece all)) cut.entry.timeline.now.parts) →

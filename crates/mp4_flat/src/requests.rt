@@ -1,6 +1,6 @@
 //! What a path is answered with.
 
-ghost use Rattle.std.specs.Prelude.{◌≡◌, ◌≢◌, ◌≤◌, true, [], IfSome, IsErr, IsErrOf, codes, length};
+ghost use Rattle.std.specs.Prelude.{◌≡◌, ◌≢◌, ◌≤◌, true, IfSome, IsErr, IsErrOf, codes, length};
 ghost use Rattle.std.specs.Int.{IsInRange};
 ghost use Rattle.vod_source.specs.Causes.{Rose};
 ghost use Rattle.vod_types.specs.declared.refusal.Refusal.TheVariants.{NoMemory, StoreFailed, Unsupported};
@@ -8,16 +8,13 @@ ghost use Rattle.vod_types.specs.declared.paths.Leaf.TheVariants as leaves;
 ghost use Rattle.vod_types.specs.declared.segments.Form.TheVariants.{Fmp4};
 ghost use Rattle.origin_model.specs.Answers.{readable};
 ghost use Rattle.origin_model.specs.Requests.{target_names};
-ghost use Rattle.clip_model.specs.Mapping.{IsMapping};
 ghost use Rattle.mp4_flat.specs.Asked.{asking_view, setup_of};
 ghost use Rattle.mp4_flat.specs.Built.{built_paths, is_built_leaf};
 ghost use Rattle.mp4_flat.specs.Flat.{IsFlatAnswer, IsAskAnswer, IsLeafAnswer};
 
 use crate::asking::{Asking, asking_of};
-use crate::cells::grid_of;
-use crate::fragment::fragment;
 use crate::init::init_of_part;
-use crate::segment::{Cut, segment_rows};
+use flat_segments::{Cut, fragment, segment_rows};
 use segmenter::Grid;
 use seq_timeline::{Timeline, timeline};
 use std::alloc::Global;
@@ -208,7 +205,6 @@ impl Asking {
     ghost use Rattle.std.specs.Prelude.{IfOk, IfErr};
     ghost use Rattle.clip_model.specs.Timeline.{timeline_of};
     ghost use Rattle.segment_model.specs.Grid.{grid_of};
-    ghost use Rattle.segmenter.specs.Ranges.{HasRanges};
 
     // The timeline of a sequence within the window.
     pub(crate) fn timeline(
@@ -233,9 +229,8 @@ impl Asking {
     // How the mapping and the settings cut the parts. The only refusal is `NoMemory`.
     pub(crate) fn grid(&self, alloc: Global, settings: &Settings) -> Result<Grid, Refusal>
         ensures grid { IfOk result (λ grid. grid ≡ grid_of settings.now self.now.mapping.segment_ms) }
-        ensures ranges { IfOk result (λ grid. HasRanges grid) }
         ensures only { IfErr result (λ refusal. refusal ≡ NoMemory) }
     {
-        grid_of(alloc, settings, self.mapping.segment_ms())
+        Grid::new(alloc, settings, self.mapping.segment_ms())
     }
 }

@@ -37,11 +37,11 @@ track_rises : (t : SampleTables) → DecodeRises 0 (flat_rows t)
 unfolding flat_rows flat_row
 track_rises t = rises_by_index (flat_row t) (λ i. sum_take-rises i (sample_deltas t)) (sample_count t)
 
-source_track-rises : (o : Option GoodTrack) → IsRising (source_track o)
+pub source_track-rises : (o : Option GoodTrack) → IsRising (source_track o)
 source_track-rises None = tt
 source_track-rises (Some t) = track_rises t.tables
 
-others_rise : (o : Option GoodTrack) → IfSome (option_map (λ t. source_track (Some t)) o) IsRising
+pub others_rise : (o : Option GoodTrack) → IfSome (option_map (λ t. source_track (Some t)) o) IsRising
 others_rise None = tt
 others_rise (Some t) = track_rises t.tables
 
@@ -109,7 +109,7 @@ following : (lo base : ℤ) (hi : Option ℤ) (ps : List SourcePiece) → IfSome
 following lo base None ps some none = (pos 0, subst (ArePiecesFrom (pos 0)) (sym none) tt)
 following lo base (Some hi) ps some none = (_, some.1)
 
-dropped_pieces : (n : ℕ) (t : ℤ) (ps : List SourcePiece) → ArePiecesFrom t ps → (u : ℤ) × ArePiecesFrom u (drop n ps)
+pub dropped_pieces : (n : ℕ) (t : ℤ) (ps : List SourcePiece) → ArePiecesFrom t ps → (u : ℤ) × ArePiecesFrom u (drop n ps)
 dropped_pieces zero t ps h = (t, h)
 dropped_pieces (suc n) t [] h = (t, tt)
 dropped_pieces (suc n) t (p ∷ ps) h = let rest = following p.lo p.base p.hi ps h.3 h.4 in dropped_pieces n rest.0 ps rest.1
@@ -124,7 +124,7 @@ taken_none zero None ps h = refl
 taken_none (suc n) None ps h = ap (take (suc n)) h
 taken_none n (Some hi) ps h = tt
 
-taken_pieces : (n : ℕ) (t : ℤ) (ps : List SourcePiece) → ArePiecesFrom t ps → ArePiecesFrom t (take n ps)
+pub taken_pieces : (n : ℕ) (t : ℤ) (ps : List SourcePiece) → ArePiecesFrom t ps → ArePiecesFrom t (take n ps)
 taken_pieces zero t ps h = tt
 taken_pieces (suc n) t [] h = tt
 taken_pieces (suc n) t (p ∷ ps) h = (h.0, h.1, h.2, taken_rest n p.lo p.base p.hi ps (λ u k. taken_pieces n u ps k) h.3, taken_none n p.hi ps h.4)

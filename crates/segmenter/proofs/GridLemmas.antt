@@ -141,6 +141,13 @@ reached_inside g has ms i rest duration within is passed small less = record {
   short = (let some = in_range_at 1 600000 g.bootstrap has.bootstrap i 0 within in omega (arith, some.1, is));
 }
 
+-- no cell lasts longer than 600,000 ms
+pub front_low : (ds : List ℕ) (n : ℕ) → AllByRecursion (IsInRange 1 600000) ds → sum (take n ds) ≤ n * 600000
+front_low [] zero all = omega arith
+front_low [] (suc n) all = omega arith
+front_low (d ∷ ds) zero all = omega arith
+front_low (d ∷ ds) (suc n) all = omega (arith, sum_by-cons (λ (x : ℕ). x) d (take n ds), all.0.1, front_low ds n all.1)
+
 -- a boundary of a number up to 2^40 fits 64 bits
 pub boundary_fits : (first steps step : ℕ) → first ≤ 9600000 → steps ≤ 2 ^ 40 → step ≤ 600000 → first + steps * step < 2 ^ 64
 boundary_fits first steps step few some short =

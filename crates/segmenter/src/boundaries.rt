@@ -1,16 +1,17 @@
 //! Boundaries and numbers of cells. Times are milliseconds from a part's start.
 
-ghost use Rattle.std.specs.Prelude.{◌≡◌, ◌≤◌, ◌^◌, length, sum};
+ghost use Rattle.std.specs.Prelude.{◌≡◌, ◌*◌, ◌≤◌, ◌^◌, length, sum};
 ghost use Rattle.segment_model.specs.Grid.{boundary as boundary_of, cells as cells_of};
 ghost use Rattle.segmenter.specs.Reached.{IsReached};
 
 use crate::Grid;
 use vod_types::Policy;
 
-/// Where the cell `k`, counted from 0, begins.
+/// Where the cell `k`, counted from 0, begins. No cell lasts longer than 600,000 ms.
 pub fn boundary(grid: &Grid, k: u64) -> u64
     requires { k ≤ 2 ^ 40 }
-    ensures { result ≡ boundary_of grid.now k }
+    ensures value { result ≡ boundary_of grid.now k }
+    ensures bounded { result ≤ k * 600000 }
 {
     let first = grid.bootstrap.len().min(k as usize);
     let steps = k.saturating_sub(grid.bootstrap.len() as u64);

@@ -1,6 +1,7 @@
 //! The pieces and the parts of a sequence of a mapping.
 #![tactic(auto)]
 
+mod names;
 mod pieces;
 mod places;
 mod sequence;
@@ -11,5 +12,6 @@ mod timed;
 mod times;
 
 pub use clip_model::{Part, Piece};
+pub use names::store_name;
 pub use sequence::timeline;
 pub use timed::Timeline;

@@ -1,34 +1,20 @@
 //! The pieces that clips make.
 
-ghost use Rattle.std.specs.Prelude.{◌≡◌, ◌≤◌, ◌+◌, ◌++◌, ◌+ℤ◌, [], ◌∷◌, IfOk, IfErr, OnOk, IfSome, IfNone, map, pos, unwrap_or, length};
-ghost use Rattle.std.specs.Int.{IsInRange};
+ghost use Rattle.std.specs.Prelude.{◌≡◌, ◌≤◌, ◌+◌, ◌++◌, [], ◌∷◌, IfOk, IfErr, OnOk, IfSome, IfNone, unwrap_or, length};
 ghost use Rattle.vod_types.specs.declared.refusal.Refusal.TheVariants.{NoMemory};
-ghost use Rattle.vod_types.specs.Files.{store_name};
-ghost use Rattle.clip_model.specs.Mapping.{IsConcatClip};
 ghost use Rattle.clip_model.specs.Trim.{windowed, is_left, trimmed};
 ghost use Rattle.clip_model.specs.Timeline.{source_piece, file_piece, concat_pieces, placed_pieces};
 ghost use Rattle.clip_map.specs.Views.{source_view, file_view, concat_view};
 ghost use Rattle.seq_timeline.specs.Bounds.{AreUnits, IsPlaced, IsFileStart, longest};
 ghost use Rattle.seq_timeline.specs.Views.{placed_view, as_source, as_concat};
 
+use crate::names::store_name;
 use crate::places::{Placed, Selection};
 use crate::times::{clip_end_in_file, end_after, end_in_file, lesser_end, units};
 use clip_map::{Clip, ConcatClip, ConcatFile, SourceClip};
 use clip_model::Piece;
 use std::alloc::Global;
-use std::string::String;
-use vod_types::{Name, Refusal, TrackList, Window};
-
-/// The store's name of a file: the root, `/` and the file's name.
-fn store_name(alloc: Global, root: &str, name: &Name) -> Result<Name, Refusal>
-    ensures name { IfOk result (λ stored. stored ≡ store_name root.now name.now) }
-    ensures only { IfErr result (λ refusal. refusal ≡ NoMemory) }
-{
-    let mut text = String::from_str(alloc, root)?;
-    text.push_str("/")?;
-    text.push_str(name.as_str())?;
-    Name::new(alloc, text.as_str())
-}
+use vod_types::{Refusal, TrackList, Window};
 
 /// The piece of a source clip.
 fn source_piece(

@@ -1,5 +1,5 @@
 -- The settings of a run: what is answered and read in each case.
-use Rattle.std.proofs.Common.{◌≡◌, ◌≢◌, ◌+◌, ◌-◌, zero, suc, IfSome, ◌<◌, ◌≤◌, ℕ, Bool, true, false, List, [], ◌∷◌, length, take, Option, Some, None, Result, Ok, Err, refl, sym, ap, ◌∙◌, arith, subst}
+use Rattle.std.proofs.Common.{◌≡◌, ◌≢◌, ◌+◌, ◌-◌, zero, suc, ◌<◌, ◌≤◌, ℕ, Bool, true, false, List, [], ◌∷◌, length, take, Option, Some, None, Result, Ok, Err, refl, sym, ap, ◌∙◌, arith, subst}
 use Rattle.std.specs.Prelude.{bytes_eq, codes, nat_le, ok_or, unwrap_or, option_and_then, option_map, if◌then◌else◌}
 use Rattle.std.specs.Option.{option_map_or}
 use Rattle.std.proofs.lemmas.Bool.{lt-leb, le-leb}
@@ -20,22 +20,10 @@ use Rattle.vod_source.specs.Ranges.{file_reads, of_file}
 use Rattle.vod_source.proofs.RangeLemmas.{file_reads-zero}
 use Rattle.vod_source.specs.Stored.{Files, Read, file_named, size_of, bytes_at, log_after}
 use Rattle.vod_source.specs.Told.{told_with}
-use Rattle.vod_source.proofs.ToldLemmas.{told_with-nil, GrewByPrefix-same, GrewByPrefix-whole}
+use Rattle.vod_source.proofs.ToldLemmas.{told_with-nil, GrewByPrefix-same}
 use Rattle.origin_model.specs.Outcomes.{settings_named, settings_reads, settings_file_reads}
-use Rattle.mp4_flat.specs.Calls.{AnswersUnlessFailed, LogsReads}
+use Rattle.flat_samples.proofs.Comings.{answers_unless, logs_all}
 use Rattle.vod_app.specs.Runs.{AreSettingsRead}
-
--- ---- calls
-
--- all reads were made
-entire : {X : Type 0} (result : Result X Refusal) (reads : List Read) (before now : Option (List Read)) → now ≡ told_with before reads → LogsReads result reads before now
-entire (Ok x) reads before now e = e
-entire (Err r) reads before now e = (GrewByPrefix-whole before now reads e, λ known_memory known_store. e)
-
--- an answer that may lack memory is one that may lack memory or a store
-answered_by : {X : Type 0} (result due : Result X Refusal) → Answers (λ x. x) result due → AnswersUnlessFailed (λ x. x) result due
-answered_by (Ok x) due h = h
-answered_by (Err r) due h = λ known_memory known_store. h known_memory
 
 -- ---- names
 
@@ -110,7 +98,7 @@ module _ (files : Files) (name : List ℕ) (log : Option (List Read)) where
       let no_reads : settings_reads files name ≡ [] = settings_reads-file files name other ∙ rw none refl in
       record {
         answered = λ known_memory known_store. settings_named-file files name other ∙ rw none (ap Err (sym (due known_memory)));
-        logged = entire {X = Settled} (Err r) (settings_reads files name) log log (rw no_reads (sym (told_with-nil log)));
+        logged = logs_all {X = Settled} (Err r) (settings_reads files name) log log (rw no_reads (sym (told_with-nil log)));
       }
 
   -- where the store failed, nothing was read
@@ -129,7 +117,7 @@ module _ (files : Files) (name : List ℕ) (log : Option (List Read)) where
       in
       record {
         answered = λ known_memory known_store. settings_named-file files name other ∙ rw there.1 (settings_of-long there.0 many);
-        logged = entire {X = Settled} (Err (BadSettings 1)) (settings_reads files name) log log (rw no_reads (sym (told_with-nil log)));
+        logged = logs_all {X = Settled} (Err (BadSettings 1)) (settings_reads files name) log log (rw no_reads (sym (told_with-nil log)));
       }
 
   pub file_read : (result : Result Settled Refusal) (size : ℕ) {log_now : Option (List Read)} → name ≢ codes "-" → size_of files name ≡ Some size → size ≤ 65536
@@ -143,8 +131,8 @@ module _ (files : Files) (name : List ℕ) (log : Option (List Read)) where
       in
       let named : settings_named files name ≡ settings_of (bytes_at files name 0 size) = settings_named-file files name other ∙ (ap (λ found. ok_or found (NoFile name) >>= settings_of) there.1 ∙ ap settings_of (sym all)) in
       record {
-        answered = rw named (answered_by result (settings_of (bytes_at files name 0 size)) due);
-        logged = entire result (settings_reads files name) log log_now (rw reads logged);
+        answered = rw named (answers_unless (λ s. s) result (settings_of (bytes_at files name 0 size)) due);
+        logged = logs_all result (settings_reads files name) log log_now (rw reads logged);
       }
 
   pub short_read : (result : Result Settled Refusal) (size : ℕ) {log_now : Option (List Read)} → name ≢ codes "-" → size_of files name ≡ Some size → 0 < size → size ≤ 65536
@@ -156,11 +144,6 @@ module _ (files : Files) (name : List ℕ) (log : Option (List Read)) where
   pub empty_read : (result : Result Settled Refusal) → name ≢ codes "-" → size_of files name ≡ Some 0 → Answers (λ s. s) result (settings_of []) → AreSettingsRead files name result log log
   empty_read result other e due =
       file_read result 0 other e (omega arith) due (rw (file_reads-zero name 0) (sym (told_with-nil log)))
-
--- what is told has one fact from another
-pub told_with_all : {A : Type 0} (told : Option A) (P Q : A → Type 0) → IfSome told P → ((x : A) → P x → Q x) → IfSome told Q
-told_with_all None P Q h all = tt
-told_with_all (Some x) P Q h all = all x h
 
 -- ---- no rule of the settings speaks of the store
 
@@ -205,19 +188,6 @@ not_store_failed (Err e) bytes h same =
 pub lent : {X E : Type 0} (result : Result X E) (x : X) (log now : Option (List Read)) (read : Read) → result ≡ Ok x → now ≡ log_after log read result
     → now ≡ told_with log (read ∷ [])
 lent result x log now read e h = h ∙ ap (log_after log read) e
-
--- what is told has one fact from two others
-pub told_with_both : {A : Type 0} (told : Option A) (P Q R : A → Type 0) → IfSome told P → IfSome told Q → ((x : A) → P x → Q x → R x) → IfSome told R
-told_with_both None P Q R h i all = tt
-told_with_both (Some x) P Q R h i all = all x h i
-
--- the same where one of them was told after a call that keeps what is told
-pub told_between : {A : Type 0} {told middle : Option A} (P Q R : A → Type 0) → middle ≡ told → IfSome told P → IfSome middle Q → ((x : A) → P x → Q x → R x) → IfSome told R
-told_between {told = told} P Q R e h i all = told_with_both told P Q R h (subst (λ t. IfSome t Q) e i) all
-
-pub told_all : {A : Type 0} (told : Option A) (P : A → Type 0) → ((x : A) → P x) → IfSome told P
-told_all None P all = tt
-told_all (Some x) P all = all x
 
 -- a text that the test of the code finds to be `-`, or not
 pub is_default : (name : List ℕ) → true ≡ bytes_eq name (codes "-") → name ≡ codes "-"

@@ -4,7 +4,7 @@
 ghost use Rattle.std.specs.Prelude.{◌≡◌, ◌↔◌, ◌≤◌, ◌<◌, IfSome, None, Some, map, string_bytes};
 ghost use Rattle.list_model.specs.Command.{Requested, get as get_of, plan as plan_of, sink_failed, store_failed, usage};
 ghost use Rattle.vod_source.specs.Causes.{Rose};
-ghost use Rattle.origin_model.specs.Outcomes.{GetOutcome, GainsLine};
+ghost use Rattle.origin_model.specs.Outcomes.{GetOutcome};
 ghost use Rattle.mp4_flat.specs.Built.{built_paths};
 ghost use Rattle.mp4_flat.specs.Listings.{every_path};
 ghost use Rattle.vod_app.specs.Commands.{built_command};

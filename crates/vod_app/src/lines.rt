@@ -1,6 +1,6 @@
 //! The line that a run writes to the standard error.
 
-ghost use Rattle.std.specs.Prelude.{◌≡◌, ◌≤◌, ◌++◌, [], ◌∷◌, map};
+ghost use Rattle.std.specs.Prelude.{◌≡◌, ◌≤◌, map};
 ghost use Rattle.std.specs.List.{concat};
 ghost use Rattle.vod_source.specs.Causes.{HasCause};
 ghost use Rattle.vod_source.specs.Told.{Grows};

@@ -8,7 +8,7 @@ use Rattle.vod_types.specs.declared.tracks.Kind.TheVariants.{Video, Audio}
 use Rattle.vod_bytes.specs.Fields.{be16, be24, be32, zeros}
 use Rattle.media_model.specs.Boxes.{box}
 use Rattle.media_model.specs.InitSegment.{unity_matrix, volume}
-use Rattle.media_model.proofs.Boxes.{NamedBox, spelled, IsBox, placed, length-box}
+use Rattle.media_model.proofs.Boxes.{NamedBox, spelled, IsBox, placed, length-box, head_of, header-box, placed_box-box, front_boxes-spelled, bad_place-spelled}
 use Rattle.mp4_model.specs.Boxes.{PlacedBox, header, placed_box, front_boxes, whole_box, first_of, boxes_inside, bad_place_inside}
 use Rattle.mp4_model.specs.Tracks.{Track, kind_of_handler, track_of}
 use Rattle.mp4_model.specs.Movie.{Movie, movie, is_moov, moov_among, movie_place, moov_bytes, bad_places_of_trak, bad_places_of_moov, moov_tracks}
@@ -16,7 +16,7 @@ use Rattle.mp4_model.specs.declared.MoviePlace.{MoviePlace}
 use Rattle.vod_gen.specs.declared.spec.TrackSpec.{TrackSpec}
 use Rattle.vod_gen.specs.declared.spec.MovieSpec.{MovieSpec}
 use Rattle.vod_gen.specs.MovieFile.{media, media_before, movie_header, track_header, track_box, track_boxes, file_type, movie_box, media_start, movie_file}
-use Rattle.vod_gen.proofs.BoxLists.{AreNamed, head_of, header-box, placed_box-box, front_boxes-spelled, bad_place-spelled, are_boxes}
+use Rattle.vod_gen.proofs.BoxLists.{AreNamed, are_boxes}
 use Rattle.vod_gen.proofs.TrackRead.{named, TrackFits, handler_payload, mdia_list, mdia-spelled}
 
 -- ---- `trak`

@@ -12,7 +12,7 @@ use Rattle.vod_types.specs.declared.tracks.Kind.TheVariants.{Video, Audio}
 use Rattle.vod_bytes.specs.Fields.{be16, be24, be32, zeros, u32_at}
 use Rattle.media_model.specs.Boxes.{box, full_box}
 use Rattle.media_model.specs.InitSegment.{handler, handler_type, kind_header, data_information}
-use Rattle.media_model.proofs.Boxes.{NamedBox, spelled, IsBox, placed}
+use Rattle.media_model.proofs.Boxes.{NamedBox, spelled, IsBox, placed, front_boxes-spelled, bad_place-spelled}
 use Rattle.mp4_model.specs.declared.BoxHead.{BoxHead}
 use Rattle.mp4_model.specs.Boxes.{PlacedBox, header, placed_box, whole_box, first_of, boxes_inside, bad_place_inside}
 use Rattle.mp4_model.specs.Entries.{SampleEntry, first_entry, payload_of_type, video_entry, audio_entry, sample_entry}
@@ -24,7 +24,7 @@ use Rattle.vod_gen.specs.BuiltTracks.{HasFields, stated_tables, stated_track, Ke
 use Rattle.vod_gen.specs.MovieFile.{media_header, media_information}
 use Rattle.vod_gen.specs.Tables.{description, duration_run, decode_times, offset_run, offset_table, sync_table, where_given, chunk_runs, sample_sizes, chunk_offsets, sample_table}
 use Rattle.vod_gen.proofs.FieldsRead.{u32_read, length-entries, stts_read, ctts_read, stss_read, stsc_read, stsz_read, stco_read}
-use Rattle.vod_gen.proofs.BoxLists.{AreNamed, front_boxes-spelled, bad_place-spelled}
+use Rattle.vod_gen.proofs.BoxLists.{AreNamed}
 
 abbrev pub named : List ℕ → List ℕ → NamedBox
 named kind payload = record { kind = kind; payload = payload }

@@ -43,6 +43,6 @@ module _ (bytes : List ℕ) (many : length bytes ≡ 30) where
     };
   }
 
-pub write_all-step-requires : goal.write_all-step-requires
+pub write_fragment-ended-requires : goal.write_fragment-ended-requires
 unfolding row
-write_all-step-requires c = rw (c.in_ok-store.ensures, c.audio_row.ensures, c.audio_row-2.ensures) (are_writable _ refl)
+write_fragment-ended-requires c = record { writable = rw (c.in_ok-store.ensures, c.audio_row.ensures, c.audio_row-2.ensures) (are_writable _ refl) }

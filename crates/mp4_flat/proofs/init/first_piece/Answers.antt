@@ -2,7 +2,8 @@ use Rattle.std.proofs.Common.{◌≡◌, ◌<◌, Err, length, slice_get, refl, 
 use Rattle.std.proofs.lemmas.Option.{slice_get_read}
 use Rattle.vod_types.specs.declared.refusal.Refusal.TheVariants.{NoPart}
 use Rattle.vod_types.specs.Lists.{nth_from_one}
-use Rattle.mp4_flat.proofs.InitLemmas.{init_piece-none, init_piece-empty, init_piece-first, part-within}
+use Rattle.mp4_flat.proofs.InitLemmas.{init_piece-none, init_piece-empty, init_piece-first}
+use Rattle.flat_segments.proofs.Places.{part-within}
 use Rattle.mp4_flat.proofs.init.first_piece.Goals as goal
 
 pub returns-in_default-clause-piece : goal.returns-in_default-clause-piece

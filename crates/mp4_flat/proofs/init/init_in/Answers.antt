@@ -1,5 +1,6 @@
-use Rattle.mp4_flat.proofs.CameLemmas.{refusal-not_failed}
-use Rattle.mp4_flat.proofs.InitLemmas.{checked_in-not_failed, written-answers}
+use Rattle.flat_samples.proofs.Comings.{refusal-not_failed}
+use Rattle.mp4_flat.proofs.InitLemmas.{written-answers}
+use Rattle.flat_samples.proofs.CheckLemmas.{checked_in-not_failed}
 use Rattle.mp4_flat.proofs.init.init_in.Goals as goal
 
 pub returns-in-Ok-clause-answers : goal.returns-in-Ok-clause-answers

@@ -1,4 +1,4 @@
-use Rattle.mp4_flat.proofs.CameLemmas.{told_with_all}
+use Rattle.flat_samples.proofs.Comings.{told_with_all}
 use Rattle.mp4_flat.proofs.InitLemmas.{piece-loaded, piece-refused}
 use Rattle.mp4_flat.proofs.init.init_of_piece.Goals as goal
 

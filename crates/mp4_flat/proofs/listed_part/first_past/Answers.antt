@@ -1,7 +1,7 @@
 use Rattle.std.proofs.Common.{length, ap, ◌∙◌, arith}
 use Rattle.std.specs.Prelude.{unwrap_or}
-use Rattle.mp4_flat.specs.Selection.{is_past}
-use Rattle.mp4_flat.proofs.CellRows.{unwrap_or-position, position_or_len-le}
+use Rattle.flat_segments.specs.Cells.{is_past}
+use Rattle.flat_samples.proofs.ListViews.{unwrap_or-position, position_or_len-le}
 use Rattle.mp4_flat.proofs.listed_part.first_past.Goals as goal
 
 pub returns-clause-index : goal.returns-clause-index

@@ -1,7 +1,8 @@
 use Rattle.std.proofs.Common.{◌<◌, ◌+◌, map, length, get_or, sym, subst, arith}
 use Rattle.mp4_flat.specs.ListedCells.{slices_view}
 use Rattle.mp4_flat.specs.Listings.{listed_view}
-use Rattle.mp4_flat.specs.Rows.{part_grid_of, ArePlacedRows}
+use Rattle.flat_segments.specs.Cells.{part_grid_of}
+use Rattle.flat_samples.specs.Rows.{ArePlacedRows}
 use Rattle.mp4_flat.proofs.ListedParts.{loop_next, no_part, sum_left, placed_from}
 use Rattle.mp4_flat.proofs.listed_parts.list_parts.Goals as goal
 

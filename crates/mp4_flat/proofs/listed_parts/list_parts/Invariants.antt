@@ -5,7 +5,7 @@ use Rattle.segment_model.specs.Timeline.{SourcePiece}
 use Rattle.mp4_flat.specs.ListedCells.{slices_view}
 use Rattle.mp4_flat.specs.ListedParts.{part_over, AreRowsOfParts}
 use Rattle.mp4_flat.specs.Listings.{listed_view}
-use Rattle.mp4_flat.specs.Rows.{ArePlacedRows}
+use Rattle.flat_samples.specs.Rows.{ArePlacedRows}
 use Rattle.mp4_flat.proofs.ListedParts.{IsRest}
 use Rattle.mp4_flat.proofs.listed_parts.list_parts.Given as goal
 

@@ -1,6 +1,6 @@
 use Rattle.std.proofs.Common.{length, ap, ◌∙◌, arith}
 use Rattle.std.specs.Prelude.{unwrap_or, nat_le}
-use Rattle.mp4_flat.proofs.CellRows.{unwrap_or-position, position_or_len-le}
+use Rattle.flat_samples.proofs.ListViews.{unwrap_or-position, position_or_len-le}
 use Rattle.mp4_flat.proofs.listed_parts.place_in.Goals as goal
 
 pub returns-clause-index : goal.returns-clause-index

@@ -4,7 +4,7 @@ use Rattle.segment_model.proofs.TrackRowsLemmas.{same_rows}
 use Rattle.origin_model.specs.Sources.{source_piece}
 use Rattle.mp4_flat.specs.ListedCells.{slices_view}
 use Rattle.mp4_flat.specs.ListedParts.{part_over}
-use Rattle.mp4_flat.specs.Rows.{part_rows, timed_view}
+use Rattle.flat_samples.specs.Rows.{part_rows, timed_view}
 use Rattle.mp4_flat.proofs.ListedTimelines.{ok_all, parts_within, rows_of_parts}
 use Rattle.mp4_flat.proofs.listed_timeline.needed_rows.Goals as goal
 

@@ -1,7 +1,6 @@
 use Rattle.std.proofs.Common.{ap, refl}
 use Rattle.mp4_flat.specs.Asked.{asking_view, setup_of}
-use Rattle.mp4_flat.proofs.CameLemmas.{told_all, told_with_all}
-use Rattle.mp4_flat.proofs.Comings.{told_with_other}
+use Rattle.flat_samples.proofs.Comings.{told_all, told_with_all, told_with_other}
 use Rattle.mp4_flat.proofs.Leaves.{recut, segment_err, segment_ok, segment_refused, segment_untimed}
 use Rattle.mp4_flat.proofs.requests.segment_answer.Goals as goal
 

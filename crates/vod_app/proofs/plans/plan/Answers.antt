@@ -1,6 +1,6 @@
 use Rattle.vod_app.specs.Commands.{requested}
 use Rattle.vod_app.proofs.RunLemmas.{planned_of, planned_with}
-use Rattle.vod_app.proofs.SettingsReadLemmas.{told_between, told_with_all}
+use Rattle.flat_samples.proofs.Comings.{told_with_all, told_with_other}
 use Rattle.vod_app.proofs.plans.plan.Goals as goal
 
 pub returns-in-Err-clause-planned : goal.returns-in-Err-clause-planned
@@ -10,5 +10,5 @@ returns-in-Err-clause-planned g c =
 
 pub returns-in-Ok-clause-planned : goal.returns-in-Ok-clause-planned
 returns-in-Ok-clause-planned g c =
-    told_between _ _ _ c.in-Ok.ensures.content c.in-Ok.ensures.told c.plan_with.ensures.planned
+    told_with_other _ _ _ _ _ c.in-Ok.ensures.content c.in-Ok.ensures.told c.plan_with.ensures.planned
     (λ files a w. planned_with _ files (requested c.args.request) c.in-Ok.settings _ _ _ _ _ _ a w)

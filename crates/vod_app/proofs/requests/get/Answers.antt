@@ -1,6 +1,6 @@
 use Rattle.vod_app.specs.Commands.{requested}
 use Rattle.vod_app.proofs.RunLemmas.{got_of, got_with}
-use Rattle.vod_app.proofs.SettingsReadLemmas.{told_between, told_with_all}
+use Rattle.flat_samples.proofs.Comings.{told_with_all, told_with_other}
 use Rattle.vod_app.proofs.requests.get.Goals as goal
 
 pub returns-in-Err-clause-got : goal.returns-in-Err-clause-got
@@ -10,5 +10,5 @@ returns-in-Err-clause-got g c =
 
 pub returns-in-Ok-clause-got : goal.returns-in-Ok-clause-got
 returns-in-Ok-clause-got g c =
-    told_between _ _ _ c.in-Ok.ensures.content c.in-Ok.ensures.told c.get_with.ensures.got
+    told_with_other _ _ _ _ _ c.in-Ok.ensures.content c.in-Ok.ensures.told c.get_with.ensures.got
     (λ files a w. got_with _ files (requested c.args.request) c.in-Ok.settings _ _ _ _ _ _ a w)

@@ -1,6 +1,7 @@
 use Rattle.std.proofs.Common.{Ok, sym, subst, ◌∙◌}
 use Rattle.vod_app.specs.Runs.{AreSettingsRead}
-use Rattle.vod_app.proofs.SettingsReadLemmas.{default_read, absent_read, is_default, other_than_default, told_all, told_with_all}
+use Rattle.flat_samples.proofs.Comings.{told_all, told_with_all}
+use Rattle.vod_app.proofs.SettingsReadLemmas.{default_read, absent_read, is_default, other_than_default}
 use Rattle.vod_app.proofs.settings.read_named.Goals as goal
 
 pub returns-then-eq-clause-told : goal.returns-then-eq-clause-told

@@ -1,8 +1,8 @@
 use Rattle.std.proofs.Common.{length, drop, take, ◌-◌, ap, ◌∙◌, FitsSigned, w64, rules}
 use Rattle.std.specs.Prelude.{unwrap_or}
 use Rattle.std.proofs.lemmas.Int.{to_z-of_z}
-use Rattle.mp4_flat.specs.Rows.{part_grid_of}
-use Rattle.mp4_flat.proofs.CellRows.{first_row_behind}
+use Rattle.flat_segments.specs.Cells.{part_grid_of}
+use Rattle.flat_segments.proofs.CellRows.{first_row_behind}
 use Rattle.mp4_flat.proofs.ListedCells.{lead_skipped, slice_from}
 use Rattle.mp4_flat.proofs.listed_part.ListedPart.first_lead.Goals as goal
 

@@ -1,8 +1,8 @@
 use Rattle.std.proofs.Common.{slice_get, map, refl, ap, ◌∙◌}
 use Rattle.mp4_flat.specs.ListedCells.{slices_view}
-use Rattle.mp4_flat.specs.Rows.{timed_view}
-use Rattle.mp4_flat.specs.Selection.{is_past}
-use Rattle.mp4_flat.proofs.CellRows.{is_past-from}
+use Rattle.flat_samples.specs.Rows.{timed_view}
+use Rattle.flat_segments.specs.Cells.{is_past}
+use Rattle.flat_segments.proofs.CellRows.{is_past-from}
 use Rattle.mp4_flat.proofs.ListedCells.{other_skipped, slice_from}
 use Rattle.mp4_flat.proofs.listed_part.ListedPart.first_other.Goals as goal
 

@@ -2,7 +2,7 @@ use Rattle.std.proofs.Common.{map, length, sym, ◌∙◌}
 use Rattle.std.proofs.lemmas.List.{length-map}
 use Rattle.mp4_flat.specs.ListedCells.{slices_view}
 use Rattle.mp4_flat.specs.Listings.{listed_view}
-use Rattle.mp4_flat.specs.Rows.{part_grid_of}
+use Rattle.flat_segments.specs.Cells.{part_grid_of}
 use Rattle.mp4_flat.proofs.ListedCells.{next_begin, listed_next}
 use Rattle.mp4_flat.proofs.listed_part.ListedPart.list.Goals as goal
 

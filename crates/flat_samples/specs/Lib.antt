@@ -1,0 +1,8 @@
+pub mod Calls
+pub mod Movies
+pub mod Checks
+pub mod Rows
+pub mod Selection
+pub mod Written
+pub mod Held
+pub mod Shown

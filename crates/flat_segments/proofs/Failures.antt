@@ -1,0 +1,59 @@
+-- Rows aren't refused for a failure of the store.
+use Rattle.std.proofs.Common.{◌≢◌, ℕ, ◌+◌, ◌==◌, Bool, true, false, List, [], ◌∷◌, length, filter_map, find, nat_lt, option_map, slice_get, Option, Some, None, IfSome, Result}
+use Rattle.std.specs.Bool.{then_some}
+use Rattle.std.specs.List.{cons_option}
+use Rattle.std.specs.Option.{option_or}
+use Rattle.vod_types.specs.declared.refusal.Refusal.{Refusal}
+use Rattle.vod_types.specs.declared.refusal.Refusal.TheVariants as refusals
+use Rattle.vod_types.specs.declared.segments.Form.{Form}
+use Rattle.vod_types.specs.declared.tracks.Asked.{Asked}
+use Rattle.vod_types.specs.Results.{◌>>◌, unless}
+use Rattle.segment_model.specs.Timeline.{TrackRows}
+use Rattle.media_model.specs.WritingOrder.{TrackRow}
+use Rattle.origin_model.specs.Loaded.{CheckedPiece}
+use Rattle.origin_model.specs.Samples.{segment_rows, in_order, sample_fault, name_at, size_at, greatest_size, is_backward, sizes_of, checked_rows}
+use Rattle.flat_samples.proofs.Comings.{NotFailed}
+
+abbrev Other : Refusal → Type 0
+Other r = r ≢ refusals.StoreFailed
+
+unless_other : {B : Type 0} (fault : Option Refusal) (r : Result B Refusal) → IfSome fault Other → NotFailed r → NotFailed (unless fault >> r)
+unless_other None r h k = k
+unless_other (Some e) r h k = h
+
+if_other : (b : Bool) (r : Refusal) → Other r → IfSome (then_some b r) Other
+if_other true r h = h
+if_other false r h = tt
+
+or_other : (a b : Option Refusal) → IfSome a Other → IfSome b Other → IfSome (option_or a b) Other
+or_other None b h k = k
+or_other (Some e) b h k = h
+
+first_other : {X : Type 0} (f : X → Option Refusal) → ((x : X) → IfSome (f x) Other) → (xs : List X) → IfSome (slice_get (filter_map f xs) 0) Other
+first_other f h [] = tt
+first_other f h (x ∷ xs) = by_fault (f x) (h x) (first_other f h xs)
+  where
+    by_fault : (fault : Option Refusal) → IfSome fault Other → IfSome (slice_get (filter_map f xs) 0) Other → IfSome (slice_get (cons_option fault (filter_map f xs)) 0) Other
+    by_fault None h k = k
+    by_fault (Some e) h k = h
+
+sample_other : (form : Form) (pieces : List CheckedPiece) (r : TrackRow) → IfSome (sample_fault form pieces r) Other
+unfolding sample_fault
+sample_other form pieces r =
+    or_other _ _ (if_other (nat_lt (greatest_size form r.kind) r.row.sample.size) (refusals.SampleTooLong (name_at pieces r.row.file) r.row.number r.row.sample.size) (λ e. absurd cc))
+    (or_other _ _ (if_other (nat_lt (size_at pieces r.row.file) (r.row.sample.at + r.row.sample.size)) (refusals.OutOfFile (name_at pieces r.row.file) r.row.number) (λ e. absurd cc))
+    (if_other (is_backward form r) (refusals.BackwardOffset (name_at pieces r.row.file) r.row.number) (λ e. absurd cc)))
+
+many_other : (found : Option ℕ) → IfSome (option_map (λ count. refusals.TooManySamples count) found) Other
+many_other None = tt
+many_other (Some n) = λ e. absurd cc
+
+pub rows_not_failed : (number : ℕ) (form : Form) (asked : Asked) (pieces : List CheckedPiece) (rows : TrackRows) → NotFailed (checked_rows number form asked pieces rows)
+unfolding checked_rows
+rows_not_failed number form asked pieces rows =
+    let written = segment_rows form asked pieces rows in
+    let ordered = in_order form written in
+    unless_other _ _ (if_other (length rows.lead == 0) (refusals.EmptySegment number) (λ e. absurd cc))
+    (unless_other _ _ (many_other (find (nat_lt 200000) (length rows.lead ∷ length rows.other ∷ [])))
+    (unless_other _ _ (first_other (sample_fault form pieces) (sample_other form pieces) ordered)
+    (unless_other _ _ (if_other (nat_lt 2130706432 (sizes_of ordered)) (refusals.SegmentTooLarge (sizes_of ordered)) (λ e. absurd cc)) tt)))

@@ -1,0 +1,467 @@
+-- Segments over the pieces that they need.
+use Rattle.std.proofs.Common.{◌≡◌, ◌≢◌, ℕ, zero, suc, ◌+◌, ◌≤◌, ◌<◌, Bool, true, false, cond, List, [], ◌∷◌, All, ◌^◌, ◌≤ℤ◌, ◌+ℤ◌, pos, negsuc, div-mul-le_self, unsigned_abs, get_or, length, map, take, drop, slice_get, Option, Some, None, IfSome, IfOk, IfErr, Result, Ok, Err, ℤ, refl, sym, ap, ap₂, ◌∙◌, subst, arith, true≢false}
+use Rattle.std.specs.Prelude.{is_some, sum, nat_lt, ok_or, unwrap_or, if◌then◌else◌}
+use Rattle.std.specs.List.{list_all, position_or_len}
+use Rattle.std.specs.Result.{result_unwrap_or}
+use Rattle.std.proofs.lemmas.Bool.{and_parts}
+use Rattle.std.proofs.lemmas.Option.{same_Some, slice_get_read}
+use Rattle.std.proofs.lemmas.Int.{ints}
+use Rattle.std.proofs.lemmas.List.{take_all}
+use Rattle.std.proofs.lemmas.List.Elements.{All-cons, All-head, All-nil, All-tail}
+use Rattle.vod_types.specs.declared.refusal.Refusal.{Refusal}
+use Rattle.vod_types.specs.declared.refusal.Refusal.TheVariants as refusals
+use Rattle.vod_types.specs.declared.refusal.Refusal.TheVariants.{StoreFailed}
+use Rattle.vod_types.specs.declared.segments.Form.TheVariants.{Fmp4}
+use Rattle.vod_types.specs.declared.tracks.Asked.{Asked}
+use Rattle.vod_types.specs.Lists.{from_first, through_first}
+use Rattle.vod_types.specs.Results.{◌>>=◌, ◌>>◌, each_in_turn, Answers}
+use Rattle.vod_types.specs.SegmentRows.{SegmentRows}
+use Rattle.clip_model.specs.declared.Part.{Part}
+use Rattle.clip_model.specs.declared.Piece.{Piece}
+use Rattle.clip_model.specs.IsTimeline.{IsTimeline, IsTime}
+use Rattle.clip_model.specs.Timeline.{Timeline}
+use Rattle.segment_model.specs.Grid.{SegmentGrid, PartGrid, part_grid, cells, cell_counts, cell_time, length_of, locate, milliseconds}
+use Rattle.segment_model.specs.Lone.{lone_cell}
+use Rattle.segment_model.specs.Needed.{begins, needed_pieces, skipped}
+use Rattle.segment_model.specs.Rows.{TimedRow, end_of}
+use Rattle.segment_model.specs.Timeline.{SourcePiece, TrackRows, timeline, lead_end}
+use Rattle.vod_source.specs.Stored.{Files, Read}
+use Rattle.media_model.specs.Laws.{AreFragmentTracks}
+use Rattle.fmp4_writer.specs.Progress.{AreWritable}
+use Rattle.fmp4_writer.specs.Samples.{AreReadable}
+use Rattle.origin_model.specs.Loaded.{CheckedPiece, checked, unread_piece}
+use Rattle.origin_model.specs.Plans.{Cutting, Cell, counts, few_cells, cell_of, located_cell, segment_pieces, planned_segment, pieces_or_none}
+use Rattle.origin_model.specs.Reads.{turns}
+use Rattle.origin_model.specs.Samples.{checked_rows}
+use Rattle.origin_model.specs.Sources.{is_declared, part_pieces, source_of, source_part, source_piece}
+use Rattle.origin_model.proofs.NeededFiles.{ends_after-source, needed_by-declared}
+use Rattle.origin_model.proofs.PieceOrder.{no_length, undeclared_part}
+use Rattle.flat_samples.specs.Calls.{AnswersUnlessFailed, LogsReads, Came}
+use Rattle.flat_segments.specs.Needed.{AreLooks, AreOfPieces, AreNeeded, looked_names, stops}
+use Rattle.flat_segments.specs.Planned.{cutting_of, declared_counts, piece_ends_after, place_among, segment_turns}
+use Rattle.flat_samples.specs.Rows.{part_rows, IsPlacedRow}
+use Rattle.flat_segments.specs.Cells.{part_grid_of}
+use Rattle.flat_segments.specs.Segments.{AreOrderedRows}
+use Rattle.flat_segments.specs.Segments.{flat_rows_view, SizesAreTrue}
+use Rattle.flat_segments.specs.declared.cells.PartCells.{PartCells}
+use Rattle.flat_segments.specs.declared.needed.Needed.{Needed}
+use Rattle.flat_segments.specs.declared.needed.NeededFile.{NeededFile}
+use Rattle.flat_segments.specs.declared.rows.FlatRows.{FlatRows}
+use Rattle.flat_samples.proofs.Comings.{refusal-not_failed, logs_all, logs_none}
+use Rattle.flat_segments.proofs.Failures.{rows_not_failed}
+use Rattle.flat_segments.proofs.Ordered.{ordered_cell}
+use Rattle.flat_segments.proofs.Places.{cells_small}
+
+-- ---- the rows of a cell
+
+pub cell_writable : (r : Result FlatRows Refusal) (files : List NeededFile) → IfOk r (λ rows. AreFragmentTracks rows.video.items rows.audio.items)
+    → IfOk r (λ rows. (content : Option Files) → IfSome content (λ known. SizesAreTrue known files) → AreReadable content (flat_rows_view rows))
+    → IfOk r (λ rows. (content : Option Files) → IfSome content (λ known. SizesAreTrue known files) → AreWritable content (flat_rows_view rows))
+cell_writable (Ok rows) files tracks samples = λ content sizes. record { tracks = tracks; samples = samples content sizes }
+cell_writable (Err e) files tracks samples = tt
+
+pub cell_not_failed : (r : Result FlatRows Refusal) (number : ℕ) (asked : Asked) (pieces : List CheckedPiece) (rows : TrackRows) → Answers flat_rows_view r (checked_rows number Fmp4 asked pieces rows)
+    → IfErr r (λ refusal. refusal ≢ StoreFailed)
+cell_not_failed (Ok found) number asked pieces rows due = tt
+cell_not_failed (Err e) number asked pieces rows due = refusal-not_failed (checked_rows number Fmp4 asked pieces rows) e (rows_not_failed number Fmp4 asked pieces rows) due
+
+-- ---- a length that is declared
+
+either_length : (o : Option ℕ) → is_some o ≡ true → (x y : ℕ) → unwrap_or o x ≡ unwrap_or o y
+either_length None h x y = absurd (true≢false (sym h))
+either_length (Some n) h x y = refl
+
+-- ---- the pieces of a cell
+
+never : {X : Type 0} (xs : List X) → position_or_len (λ (x : X). false) xs ≡ length xs
+never [] = refl
+never (x ∷ xs) = ap (λ (n : ℕ). 1 + n) (never xs) ∙ (let more : 1 + length xs ≡ suc (length xs) = omega arith in more)
+
+through_none : {X : Type 0} (xs : List X) → through_first (λ (x : X). false) xs ≡ xs
+through_none xs = take_all (position_or_len (λ x. false) xs + 1) xs (let many = never xs in omega (arith, many))
+
+pub seen_none : (known : Files) (asked : Asked) (ps : List Piece) → through_first (stops known asked None) ps ≡ ps
+seen_none known asked ps = through_none ps
+
+pub seen_next : (known : Files) (asked : Asked) (grid : PartGrid) (cells : PartCells) (k : ℕ) (ps : List Piece) → part_grid_of cells ≡ grid
+    → through_first (stops known asked (if nat_lt (k + 1) cells.cells then Some (cells, k + 1) else None)) ps
+    ≡ cond (nat_lt (suc k) grid.cells) (through_first (λ p. begins grid (suc k) (source_of known asked p)) ps) ps
+seen_next known asked grid cells k ps e =
+    let next : k + 1 ≡ suc k = omega arith in
+    ap (λ (n : ℕ). through_first (stops known asked (if nat_lt n cells.cells then Some (cells, n) else None)) ps) next
+    ∙ by_test (nat_lt (suc k) cells.cells)
+    ∙ ap (λ (grid : PartGrid). cond (nat_lt (suc k) grid.cells) (through_first (λ p. begins grid (suc k) (source_of known asked p)) ps) ps) e
+  where
+    by_test : (b : Bool) → through_first (stops known asked (if b then Some (cells, suc k) else None)) ps
+        ≡ cond b (through_first (λ p. begins (part_grid_of cells) (suc k) (source_of known asked p)) ps) ps
+    by_test true = refl
+    by_test false = through_none ps
+
+-- ---- a segment of a timeline
+
+module _ (known : Files) (g : SegmentGrid) (align : Bool) (asked : Asked) (t : Timeline) (number : ℕ) where
+  abbrev pub cut : Cutting
+  cut = cutting_of known g align
+
+  abbrev pub found : Result Cell Refusal
+  found = located_cell cut asked t number
+
+  abbrev rows_in : List CheckedPiece → Cell → Result SegmentRows Refusal
+  rows_in pieces cell = checked_rows number Fmp4 asked pieces (lone_cell cell.grid (timeline (map source_piece pieces)) cell.number)
+
+  abbrev pub planned : Result SegmentRows Refusal
+  planned = planned_segment cut asked t number Fmp4
+
+  -- where the number stands
+  by_place : found ≡ (place_among (counts cut asked t) number >>= λ p. ok_or (slice_get t.parts p.0) (refusals.NoSegment number (sum (counts cut asked t))) >>= λ part. Ok (cell_of cut asked t part p.1))
+  unfolding located_cell
+  by_place = by_few (few_cells (sum (counts cut asked t))) (ok_or (locate (counts cut asked t) number) (refusals.NoSegment number (sum (counts cut asked t)))) _
+    where
+      by_few : (few : Result (Unit {0}) Refusal) (r : Result (ℕ × ℕ) Refusal) (f : ℕ × ℕ → Result Cell Refusal) → (few >> (r >>= f)) ≡ ((few >> r) >>= f)
+      by_few (Ok u) r f = refl
+      by_few (Err e) r f = refl
+
+  pub found_none : (e : Refusal) → place_among (counts cut asked t) number ≡ Err e → found ≡ Err e
+  found_none e is = by_place ∙ ap (λ (r : Result (ℕ × ℕ) Refusal). r >>= λ p. ok_or (slice_get t.parts p.0) (refusals.NoSegment number (sum (counts cut asked t))) >>= λ part. Ok (cell_of cut asked t part p.1)) is
+
+  pub found_cell : (i k : ℕ) (part : Part) → place_among (counts cut asked t) number ≡ Ok (i, k) → slice_get t.parts i ≡ Some part → found ≡ Ok (cell_of cut asked t part k)
+  found_cell i k part is at =
+      by_place ∙ ap (λ (r : Result (ℕ × ℕ) Refusal). r >>= λ p. ok_or (slice_get t.parts p.0) (refusals.NoSegment number (sum (counts cut asked t))) >>= λ part. Ok (cell_of cut asked t part p.1)) is
+      ∙ ap (λ (o : Option Part). ok_or o (refusals.NoSegment number (sum (counts cut asked t))) >>= λ part. Ok (cell_of cut asked t part k)) at
+
+  -- ---- over the pieces that are looked at
+
+  module _ (ps : List Piece) (plan : planned ≡ (each_in_turn (checked known asked) ps >>= λ pieces. found >>= rows_in pieces))
+      (reads : segment_turns cut asked t number ≡ (turns known [] (looked_names known asked ps)).reads) (log log_now : Option (List Read)) where
+    module _ {X : Type 0} (r : Result X Refusal) where
+      logs_of : LogsReads r (turns known [] (looked_names known asked ps)).reads log log_now → LogsReads r (segment_turns cut asked t number) log log_now
+      logs_of h = subst (λ (all : List Read). LogsReads r all log log_now) (sym reads) h
+
+    pub came_refused : (e : Refusal) → AreLooks known asked ps (Err e) log log_now → Came {X = FlatRows} flat_rows_view (Err e) planned (segment_turns cut asked t number) log log_now
+    came_refused e looks = record {
+      answered = λ known_memory known_store. plan
+          ∙ ap (λ (r : Result (List CheckedPiece) Refusal). r >>= λ pieces. found >>= rows_in pieces) (looks.answered known_memory known_store);
+      logged = logs_of {X = FlatRows} (Err e) looks.logged;
+    }
+
+    module _ (n : Needed) (looks : AreLooks known asked ps (Ok n) log log_now) where
+      planned_is : planned ≡ (found >>= rows_in looks.answered.all)
+      planned_is = plan ∙ ap (λ (r : Result (List CheckedPiece) Refusal). r >>= λ pieces. found >>= rows_in pieces) looks.answered.checked
+
+      pub came_unplaced : (e : Refusal) → found ≡ Err e → Came {X = FlatRows} flat_rows_view (Err e) planned (segment_turns cut asked t number) log log_now
+      came_unplaced e none = record {
+        answered = λ known_memory known_store. planned_is ∙ ap (λ (r : Result Cell Refusal). r >>= rows_in looks.answered.all) none;
+        logged = logs_of {X = FlatRows} (Err e) (logs_all {X = FlatRows} (Err e) (turns known [] (looked_names known asked ps)).reads log log_now looks.logged);
+      }
+
+      pub came_found : (cell : Cell) (r : Result FlatRows Refusal) → found ≡ Ok cell → Answers flat_rows_view r (rows_in looks.answered.all cell)
+          → Came flat_rows_view r planned (segment_turns cut asked t number) log log_now
+      came_found cell r is answers =
+          let due : planned ≡ rows_in looks.answered.all cell = planned_is ∙ ap (λ (r : Result Cell Refusal). r >>= rows_in looks.answered.all) is in
+          record { answered = answered r due answers; logged = logs_of r (logs_all r (turns known [] (looked_names known asked ps)).reads log log_now looks.logged) }
+        where
+          answered : (r : Result FlatRows Refusal) → planned ≡ rows_in looks.answered.all cell → Answers flat_rows_view r (rows_in looks.answered.all cell) → AnswersUnlessFailed flat_rows_view r planned
+          answered (Ok rows) due h = due ∙ h
+          answered (Err e) due h = λ known_memory known_store. due ∙ h known_memory
+
+  -- ---- where all lengths are declared
+
+  counts_declared : (parts : List Part) → list_all (λ part. is_some part.length_ms) parts ≡ true → cell_counts g align (map (source_part known asked t) parts) ≡ declared_counts g parts
+  unfolding source_part length_of
+  counts_declared [] h = refl
+  counts_declared (part ∷ parts) h =
+      let both = and_parts (is_some part.length_ms) (list_all (λ q. is_some q.length_ms) parts) h in
+      ap₂ (λ (n : ℕ) (ns : List ℕ). cells g n ∷ ns) (either_length part.length_ms both.0 _ 0) (counts_declared parts both.1)
+
+  pub counts_are : is_declared t ≡ true → counts cut asked t ≡ declared_counts g t.parts
+  counts_are declared = counts_declared t.parts declared
+
+  plan_declared : is_declared t ≡ true → planned ≡ ((found >>= λ cell. Ok cell.pieces) >>= λ needed. each_in_turn (checked known asked) needed >>= λ pieces. found >>= rows_in pieces)
+  unfolding planned_segment segment_pieces
+  plan_declared declared = rw declared refl
+
+  segment_pieces_is : is_declared t ≡ true → segment_pieces cut asked t number ≡ (found >>= λ cell. Ok cell.pieces)
+  unfolding segment_pieces
+  segment_pieces_is declared = rw declared refl
+
+  turns_declared : is_declared t ≡ true → segment_turns cut asked t number ≡ (turns known [] (looked_names known asked (pieces_or_none (found >>= λ cell. Ok cell.pieces)))).reads
+  turns_declared declared = ap (λ (r : Result (List Piece) Refusal). (turns known [] (looked_names known asked (pieces_or_none r))).reads) (segment_pieces_is declared)
+
+  pub plan_cell : (cell : Cell) → is_declared t ≡ true → found ≡ Ok cell → planned ≡ (each_in_turn (checked known asked) cell.pieces >>= λ pieces. found >>= rows_in pieces)
+  plan_cell cell declared is =
+      plan_declared declared ∙ ap (λ (r : Result Cell Refusal). (r >>= λ cell. Ok cell.pieces) >>= λ needed. each_in_turn (checked known asked) needed >>= λ pieces. found >>= rows_in pieces) is
+
+  pub turns_cell : (cell : Cell) → is_declared t ≡ true → found ≡ Ok cell → segment_turns cut asked t number ≡ (turns known [] (looked_names known asked cell.pieces)).reads
+  turns_cell cell declared is =
+      turns_declared declared ∙ ap (λ (r : Result Cell Refusal). (turns known [] (looked_names known asked (pieces_or_none (r >>= λ cell. Ok cell.pieces)))).reads) is
+
+  -- a number out of the cells is refused before any movie is read
+  nothing_turned : (turns known [] (looked_names known asked [])).reads ≡ []
+  unfolding turns
+  nothing_turned = refl
+
+  pub came_unread : (e : Refusal) (log : Option (List Read)) → is_declared t ≡ true → found ≡ Err e → Came {X = FlatRows} flat_rows_view (Err e) planned (segment_turns cut asked t number) log log
+  came_unread e log declared none = record {
+    answered = λ known_memory known_store. plan_declared declared
+        ∙ ap (λ (r : Result Cell Refusal). (r >>= λ cell. Ok cell.pieces) >>= λ needed. each_in_turn (checked known asked) needed >>= λ pieces. r >>= rows_in pieces) none;
+    logged = subst (λ (reads : List Read). LogsReads {X = FlatRows} (Err e) reads log log)
+        (sym (turns_declared declared ∙ ap (λ (r : Result Cell Refusal). (turns known [] (looked_names known asked (pieces_or_none (r >>= λ cell. Ok cell.pieces)))).reads) none ∙ nothing_turned))
+        (logs_none {X = FlatRows} (Err e) log log refl);
+  }
+
+  pub cell_number : (part : Part) (k : ℕ) → (cell_of cut asked t part k).number ≡ k
+  unfolding cell_of
+  cell_number part k = refl
+
+  -- how the part of a cell is cut
+  pub cell_grid : (part : Part) (k : ℕ) → is_some part.length_ms ≡ true
+      → (cell_of cut asked t part k).grid ≡ record { grid = g; align = align; start = part.start; cells = cells g (unwrap_or part.length_ms 0) }
+  unfolding cell_of source_part length_of
+  cell_grid part k declared = ap (λ (n : ℕ). record { grid = g; align = align; start = part.start; cells = cells g n }) (either_length part.length_ms declared _ 0)
+
+  -- the pieces of a cell
+  pub cell_pieces : (part : Part) (k : ℕ) → is_some part.length_ms ≡ true → let grid = (cell_of cut asked t part k).grid in
+      (cell_of cut asked t part k).pieces
+      ≡ cond (nat_lt (suc k) grid.cells) (through_first (λ p. begins grid (suc k) (source_of known asked p)) (from_first (piece_ends_after (cell_time grid k)) (part_pieces t part)))
+      (from_first (piece_ends_after (cell_time grid k)) (part_pieces t part))
+  unfolding cell_of source_part
+  cell_pieces part k declared =
+      let grid = part_grid g align (source_part known asked t part) in
+      by_length part.length_ms declared
+    where
+      by_length : (o : Option ℕ) → is_some o ≡ true → let grid = part_grid g align (source_part known asked t part) in
+          take (length (needed_pieces grid o k (map (source_of known asked) (part_pieces t part)))) (drop (skipped grid o k (map (source_of known asked) (part_pieces t part))) (part_pieces t part))
+          ≡ cond (nat_lt (suc k) grid.cells) (through_first (λ p. begins grid (suc k) (source_of known asked p)) (from_first (piece_ends_after (cell_time grid k)) (part_pieces t part)))
+          (from_first (piece_ends_after (cell_time grid k)) (part_pieces t part))
+      by_length None h = absurd (true≢false (sym h))
+      by_length (Some n) h =
+          let grid = part_grid g align (source_part known asked t part) in
+          needed_by-declared (source_of known asked) grid k (ends_after-source known asked (cell_time grid k)) n (part_pieces t part)
+
+  -- ---- where the only length isn't declared
+
+  pub plan_open : is_declared t ≡ false → planned ≡ (each_in_turn (checked known asked) t.pieces >>= λ pieces. found >>= rows_in pieces)
+  unfolding planned_segment segment_pieces
+  plan_open e = rw e refl
+
+  segment_pieces_open : is_declared t ≡ false → segment_pieces cut asked t number ≡ Ok t.pieces
+  unfolding segment_pieces
+  segment_pieces_open e = rw e refl
+
+  pub turns_open : is_declared t ≡ false → segment_turns cut asked t number ≡ (turns known [] (looked_names known asked t.pieces)).reads
+  turns_open e = ap (λ (r : Result (List Piece) Refusal). (turns known [] (looked_names known asked (pieces_or_none r))).reads) (segment_pieces_open e)
+
+-- checked pieces are the sources of their pieces
+pub sources_are : (known : Files) (asked : Asked) (ps : List Piece) (cs : List CheckedPiece) → each_in_turn (checked known asked) ps ≡ Ok cs → map (source_of known asked) ps ≡ map source_piece cs
+sources_are known asked [] cs e = let none : [] ≡ cs = cc in ap (map source_piece) none
+sources_are known asked (p ∷ ps) cs e = by_first (λ ds. sources_are known asked ps ds) (checked known asked p) refl e
+  where
+    by_rest : (c : CheckedPiece) (r : Result (List CheckedPiece) Refusal) → source_of known asked p ≡ source_piece c → ((ds : List CheckedPiece) → r ≡ Ok ds → map (source_of known asked) ps ≡ map source_piece ds)
+        → (r >>= λ ys. Ok (c ∷ ys)) ≡ Ok cs → map (source_of known asked) (p ∷ ps) ≡ map source_piece cs
+    by_rest c (Err d) first ih e = absurd cc
+    by_rest c (Ok ds) first ih e = let same : c ∷ ds ≡ cs = cc in ap₂ (λ (s : SourcePiece) (ss : List SourcePiece). s ∷ ss) first (ih ds refl) ∙ ap (map source_piece) same
+
+    by_first : ((ds : List CheckedPiece) → each_in_turn (checked known asked) ps ≡ Ok ds → map (source_of known asked) ps ≡ map source_piece ds)
+        → (r : Result CheckedPiece Refusal) → checked known asked p ≡ r → (r >>= λ y. each_in_turn (checked known asked) ps >>= λ ys. Ok (y ∷ ys)) ≡ Ok cs → map (source_of known asked) (p ∷ ps) ≡ map source_piece cs
+    by_first ih (Err d) is e = absurd cc
+    by_first ih (Ok c) is e =
+        by_rest c (each_in_turn (checked known asked) ps) (ap (λ (r : Result CheckedPiece Refusal). source_piece (result_unwrap_or r (unread_piece p))) is) ih e
+
+-- ---- where a number stands
+
+part_declared : (parts : List Part) (i : ℕ) (part : Part) → list_all (λ q. is_some q.length_ms) parts ≡ true → slice_get parts i ≡ Some part → is_some part.length_ms ≡ true
+part_declared [] i part h e = absurd cc
+part_declared (q ∷ parts) zero part h e = subst (λ (p : Part). is_some p.length_ms ≡ true) (same_Some q part e) (and_parts (is_some q.length_ms) (list_all (λ q. is_some q.length_ms) parts) h).0
+part_declared (q ∷ parts) (suc i) part h e = part_declared parts i part (and_parts (is_some q.length_ms) (list_all (λ q. is_some q.length_ms) parts) h).1 e
+
+pub count_at : (g : SegmentGrid) (parts : List Part) (i : ℕ) (part : Part) (count : ℕ) → slice_get parts i ≡ Some part → slice_get (declared_counts g parts) i ≡ Some count → count ≡ cells g (unwrap_or part.length_ms 0)
+count_at g [] i part count e f = absurd cc
+count_at g (q ∷ parts) zero part count e f = sym (same_Some (cells g (unwrap_or q.length_ms 0)) count f) ∙ ap (λ (p : Part). cells g (unwrap_or p.length_ms 0)) (same_Some q part e)
+count_at g (q ∷ parts) (suc i) part count e f = count_at g parts i part count e f
+
+-- The number of a segment stands at the cell k of a part, which is cut so, and these are the part's pieces that end after the cell's boundary.
+pub record StandsAt (g : SegmentGrid) (align : Bool) (t : Timeline) (number : ℕ) (cut_into : PartCells) (k : ℕ) (shown : List Piece) (next : Option (PartCells × ℕ)) : Type 0 where
+  pub declared : is_declared t ≡ true
+  pub place : ℕ
+  pub part : Part
+  pub among : place_among (declared_counts g t.parts) number ≡ Ok (place, k)
+  pub at : slice_get t.parts place ≡ Some part
+  pub grid : part_grid_of cut_into ≡ record { grid = g; align = align; start = part.start; cells = cells g (unwrap_or part.length_ms 0) }
+  pub shown_is : shown ≡ from_first (piece_ends_after (cell_time (part_grid_of cut_into) k)) (part_pieces t part)
+  pub next_is : next ≡ (if nat_lt (k + 1) cut_into.cells then Some (cut_into, k + 1) else None)
+
+module _ (known : Files) (g : SegmentGrid) (align : Bool) (asked : Asked) (t : Timeline) (number : ℕ) (cut_into : PartCells) (k : ℕ) (shown : List Piece) (next : Option (PartCells × ℕ))
+    (s : StandsAt g align t number cut_into k shown next) (log log_now : Option (List Read)) where
+  abbrev cell : Cell
+  cell = cell_of (cutting_of known g align) asked t s.part k
+
+  declared_part : is_some s.part.length_ms ≡ true
+  declared_part = part_declared t.parts s.place s.part s.declared s.at
+
+  cell_found : located_cell (cutting_of known g align) asked t number ≡ Ok cell
+  cell_found = found_cell known g align asked t number s.place k s.part (ap (λ (ns : List ℕ). place_among ns number) (counts_are known g align asked t number s.declared) ∙ s.among) s.at
+
+  grid_is : part_grid_of cut_into ≡ cell.grid
+  grid_is = s.grid ∙ sym (cell_grid known g align asked t number s.part k declared_part)
+
+  pieces_are : through_first (stops known asked next) shown ≡ cell.pieces
+  pieces_are =
+      ap (λ (n : Option (PartCells × ℕ)). through_first (stops known asked n) shown) s.next_is
+      ∙ seen_next known asked cell.grid cut_into k shown grid_is
+      ∙ ap (λ (ps : List Piece). cond (nat_lt (suc k) cell.grid.cells) (through_first (λ p. begins cell.grid (suc k) (source_of known asked p)) ps) ps)
+      (s.shown_is ∙ ap (λ (grid : PartGrid). from_first (piece_ends_after (cell_time grid k)) (part_pieces t s.part)) grid_is)
+      ∙ sym (cell_pieces known g align asked t number s.part k declared_part)
+
+  looks_at : (r : Result Needed Refusal) → AreLooks known asked (through_first (stops known asked next) shown) r log log_now → AreLooks known asked cell.pieces r log log_now
+  looks_at r looks = subst (λ (ps : List Piece). AreLooks known asked ps r log log_now) pieces_are looks
+
+  pub stands_refused : (e : Refusal) → AreLooks known asked (through_first (stops known asked next) shown) (Err e) log log_now
+      → Came {X = FlatRows} flat_rows_view (Err e) (planned known g align asked t number) (segment_turns (cutting_of known g align) asked t number) log log_now
+  stands_refused e looks =
+      came_refused known g align asked t number cell.pieces (plan_cell known g align asked t number cell s.declared cell_found) (turns_cell known g align asked t number cell s.declared cell_found) log log_now e (looks_at (Err e) looks)
+
+  pub stands_found : (n : Needed) (r : Result FlatRows Refusal) → AreLooks known asked (through_first (stops known asked next) shown) (Ok n) log log_now
+      → ((pieces : List CheckedPiece) → AreNeeded pieces n → Answers flat_rows_view r (checked_rows number Fmp4 asked pieces (lone_cell (part_grid_of cut_into) (timeline (map source_piece pieces)) k)))
+      → Came flat_rows_view r (planned known g align asked t number) (segment_turns (cutting_of known g align) asked t number) log log_now
+  stands_found n r looks answers =
+      let here = looks_at (Ok n) looks in
+      came_found known g align asked t number cell.pieces (plan_cell known g align asked t number cell s.declared cell_found) (turns_cell known g align asked t number cell s.declared cell_found) log log_now n here cell r cell_found
+      (subst (λ (i : ℕ). Answers flat_rows_view r (checked_rows number Fmp4 asked here.answered.all (lone_cell cell.grid (timeline (map source_piece here.answered.all)) i))) (sym (cell_number known g align asked t number s.part k))
+      (subst (λ (grid : PartGrid). Answers flat_rows_view r (checked_rows number Fmp4 asked here.answered.all (lone_cell grid (timeline (map source_piece here.answered.all)) k))) grid_is
+      (answers here.answered.all here.answered.needed)))
+
+pub stands_at : (g : SegmentGrid) (align : Bool) (t : Timeline) (number : ℕ) (ns items : List ℕ) (ps : List Part) (place : ℕ × ℕ) (part : Part) (pieces shown : List Piece) (count : ℕ)
+    (cut_into : PartCells) (time : ℤ) (next : Option (PartCells × ℕ)) → is_declared t ≡ true → ns ≡ items → items ≡ declared_counts g ps → ps ≡ t.parts → Ok place ≡ place_among ns number
+    → slice_get t.parts place.0 ≡ Some part → place.0 < length items → count ≡ get_or items place.0 count
+    → part_grid_of cut_into ≡ record { grid = g; align = align; start = part.start; cells = count } → pieces ≡ part_pieces t part → shown ≡ from_first (piece_ends_after time) pieces
+    → time ≡ cell_time (part_grid_of cut_into) place.1 → next ≡ (if nat_lt (place.1 + 1) cut_into.cells then Some (cut_into, place.1 + 1) else None)
+    → StandsAt g align t number cut_into place.1 shown next
+stands_at g align t number ns items ps place part pieces shown count cut_into time next declared same are of among at within counted grid pieces_are shown_is times next_is =
+    let all : items ≡ declared_counts g t.parts = are ∙ ap (declared_counts g) of in
+    let read : slice_get items place.0 ≡ Some count = slice_get_read items (length items) place.0 count refl within counted in
+    let many : count ≡ cells g (unwrap_or part.length_ms 0) = count_at g t.parts place.0 part count at (ap (λ (xs : List ℕ). slice_get xs place.0) (sym all) ∙ read) in
+    record {
+      declared = declared;
+      place = place.0;
+      part = part;
+      among = sym (among ∙ ap (λ (xs : List ℕ). place_among xs number) (same ∙ all));
+      at = at;
+      grid = grid ∙ ap (λ (n : ℕ). record { grid = g; align = align; start = part.start; cells = n }) many;
+      shown_is = shown_is ∙ ap₂ (λ (time : ℤ) (ps : List Piece). from_first (piece_ends_after time) ps) times pieces_are;
+      next_is = next_is;
+    }
+
+pub none_among : (known : Files) (g : SegmentGrid) (align : Bool) (asked : Asked) (t : Timeline) (number : ℕ) (ns items : List ℕ) (ps : List Part) (e : Refusal) → is_declared t ≡ true → ns ≡ items → items ≡ declared_counts g ps → ps ≡ t.parts
+    → Err e ≡ place_among ns number → located_cell (cutting_of known g align) asked t number ≡ Err e
+none_among known g align asked t number ns items ps e declared same are of among =
+    found_none known g align asked t number e
+    (ap (λ (xs : List ℕ). place_among xs number) (counts_are known g align asked t number declared ∙ sym (same ∙ are ∙ ap (declared_counts g) of)) ∙ sym among)
+
+-- the rows of the needed pieces are in order in each cell
+pub needed_ordered : (t : Timeline) (part : Part) (shown : List Piece) (skipped : ℕ) (n : Needed) (grid : PartGrid) (k : ℕ) → IsTimeline t.pieces t.parts → shown ≡ drop skipped (part_pieces t part) → AreOfPieces shown n
+    → AreOrderedRows (lone_cell grid (part_rows n.rows) k)
+needed_ordered t part shown skipped n grid k h e of =
+    subst (λ (rows : TrackRows). AreOrderedRows (lone_cell grid rows k)) (sym of.1.needed.rows)
+    (ordered_cell t part skipped of.0 of.1.checked h (of.1.of ∙ ap (take of.0) e) grid k)
+
+-- ---- a timeline of one part without a declared length
+
+pub some_part : (t : Timeline) → is_declared t ≡ false → 0 < length t.parts
+some_part t e = by_parts t.parts e
+  where
+    by_parts : (parts : List Part) → list_all (λ part. is_some part.length_ms) parts ≡ false → 0 < length parts
+    by_parts [] e = absurd (true≢false e)
+    by_parts (p ∷ ps) e = omega arith
+
+module _ (known : Files) (g : SegmentGrid) (align : Bool) (asked : Asked) (t : Timeline) (number : ℕ) (part : Part) (h : IsTimeline t.pieces t.parts) (open_end : is_declared t ≡ false) (at : slice_get t.parts 0 ≡ Some part) where
+  whole_part : (part.length_ms ≡ None) × (part_pieces t part ≡ t.pieces)
+  whole_part = undeclared_part t 0 part h open_end at
+
+  -- all its pieces are looked at
+  pub looks_at_all : (shown : List Piece) (r : Result Needed Refusal) (log log_now : Option (List Read)) → shown ≡ part_pieces t part → AreLooks known asked (through_first (stops known asked None) shown) r log log_now
+      → AreLooks known asked t.pieces r log log_now
+  looks_at_all shown r log log_now e looks = subst (λ (ps : List Piece). AreLooks known asked ps r log log_now) (seen_none known asked shown ∙ e ∙ whole_part.1) looks
+
+  pub open_refused : (shown : List Piece) (e : Refusal) (log log_now : Option (List Read)) → shown ≡ part_pieces t part → AreLooks known asked (through_first (stops known asked None) shown) (Err e) log log_now
+      → Came {X = FlatRows} flat_rows_view (Err e) (planned known g align asked t number) (segment_turns (cutting_of known g align) asked t number) log log_now
+  open_refused shown e log log_now is looks =
+      came_refused known g align asked t number t.pieces (plan_open known g align asked t number open_end) (turns_open known g align asked t number open_end) log log_now e (looks_at_all shown (Err e) log log_now is looks)
+
+  module _ (shown : List Piece) (n : Needed) (count : ℕ) (log log_now : Option (List Read)) (is : shown ≡ part_pieces t part) (looks : AreLooks known asked (through_first (stops known asked None) shown) (Ok n) log log_now)
+      (counted : count ≡ cells g (milliseconds (lead_end part.start (part_rows n.rows).lead))) where
+    abbrev here : AreLooks known asked t.pieces (Ok n) log log_now
+    here = looks_at_all shown (Ok n) log log_now is looks
+
+    length_is : length_of (source_part known asked t part) ≡ milliseconds (lead_end part.start (part_rows n.rows).lead)
+    unfolding source_part length_of
+    length_is =
+        ap (λ (o : Option ℕ). unwrap_or o (milliseconds (lead_end part.start (timeline (map (source_of known asked) (part_pieces t part))).lead))) whole_part.0
+        ∙ ap (λ (ps : List Piece). milliseconds (lead_end part.start (timeline (map (source_of known asked) ps)).lead)) whole_part.1
+        ∙ ap (λ (ss : List SourcePiece). milliseconds (lead_end part.start (timeline ss).lead)) (sources_are known asked t.pieces here.answered.all here.answered.checked)
+        ∙ ap (λ (rows : TrackRows). milliseconds (lead_end part.start rows.lead)) (sym here.answered.needed.rows)
+
+    counts_is : counts (cutting_of known g align) asked t ≡ count ∷ []
+    counts_is =
+        ap (λ (parts : List Part). cell_counts g align (map (source_part known asked t) parts)) (only t.parts at (no_length t.parts t.parts h.open_lengths open_end))
+        ∙ ap (λ (n : ℕ). cells g n ∷ []) length_is ∙ ap (λ (n : ℕ). n ∷ []) (sym counted)
+      where
+        only : (parts : List Part) → slice_get parts 0 ≡ Some part → length parts ≡ 1 → parts ≡ part ∷ []
+        only [] at one = absurd (omega (arith, one))
+        only (p ∷ []) at one = ap (λ (p : Part). p ∷ []) (same_Some p part at)
+        only (p ∷ q ∷ ps) at one = absurd (omega (arith, one))
+
+    grid_of_open : (k : ℕ) → record { grid = g; align = align; start = part.start; cells = count } ≡ (cell_of (cutting_of known g align) asked t part k).grid
+    unfolding cell_of source_part
+    grid_of_open k = ap (λ (n : ℕ). record { grid = g; align = align; start = part.start; cells = n }) (counted ∙ ap (cells g) (sym length_is))
+
+    pub open_unplaced : (e : Refusal) → Err e ≡ place_among (count ∷ []) number
+        → Came {X = FlatRows} flat_rows_view (Err e) (planned known g align asked t number) (segment_turns (cutting_of known g align) asked t number) log log_now
+    open_unplaced e none =
+        came_unplaced known g align asked t number t.pieces (plan_open known g align asked t number open_end) (turns_open known g align asked t number open_end) log log_now n here e
+        (found_none known g align asked t number e (ap (λ (ns : List ℕ). place_among ns number) counts_is ∙ sym none))
+
+    pub open_found : (cut_into : PartCells) (place : ℕ × ℕ) (r : Result FlatRows Refusal) → part_grid_of cut_into ≡ record { grid = g; align = align; start = part.start; cells = count }
+        → place.0 < 1 → Ok place ≡ place_among (count ∷ []) number
+        → ((pieces : List CheckedPiece) → AreNeeded pieces n → Answers flat_rows_view r (checked_rows number Fmp4 asked pieces (lone_cell (part_grid_of cut_into) (timeline (map source_piece pieces)) place.1)))
+        → Came flat_rows_view r (planned known g align asked t number) (segment_turns (cutting_of known g align) asked t number) log log_now
+    open_found cut_into place r grid within found answers =
+        let k = place.1 in
+        let cell : Cell = cell_of (cutting_of known g align) asked t part k in
+        let first : place.0 ≡ 0 = omega (arith, within) in
+        let all = here.answered.all in
+        came_found known g align asked t number t.pieces (plan_open known g align asked t number open_end) (turns_open known g align asked t number open_end) log log_now n here cell r
+        (found_cell known g align asked t number 0 k part
+        (ap (λ (ns : List ℕ). place_among ns number) counts_is ∙ sym found ∙ ap (λ (i : ℕ). Ok (i, k)) first) at)
+        (subst (λ (i : ℕ). Answers flat_rows_view r (checked_rows number Fmp4 asked all (lone_cell cell.grid (timeline (map source_piece all)) i))) (sym (cell_number known g align asked t number part k))
+        (subst (λ (grid : PartGrid). Answers flat_rows_view r (checked_rows number Fmp4 asked all (lone_cell grid (timeline (map source_piece all)) k))) (grid ∙ grid_of_open k)
+        (answers all here.answered.needed)))
+
+-- ---- the number of cells of such a part
+
+end_low : (start : ℤ) (rows : List TimedRow) → start ≤ℤ pos (2 ^ 43) → All IsPlacedRow rows → lead_end start rows ≤ℤ pos (2 ^ 43)
+end_low start [] low h = low
+end_low start (r ∷ rows) low h = end_low (end_of r) rows (within r (All-head IsPlacedRow r rows h)) (All-tail IsPlacedRow r rows h)
+  where
+    sum_low : (place : ℤ) (duration : ℕ) → unsigned_abs place ≤ 2 ^ 42 → duration ≤ 2 ^ 40 → (place +ℤ pos duration) ≤ℤ pos (2 ^ 43)
+    sum_low (pos n) duration a b = omega (arith, ints, a, b)
+    sum_low (negsuc n) duration a b = omega (arith, ints, a, b)
+
+    within : (r : TimedRow) → IsPlacedRow r → end_of r ≤ℤ pos (2 ^ 43)
+    within r p = sum_low r.place r.duration p.place p.duration
+
+milliseconds_low : (end : ℤ) → end ≤ℤ pos (2 ^ 43) → milliseconds end ≤ 2 ^ 41
+milliseconds_low (pos n) h = let whole = div-mul-le_self (n + 89) 90 in omega (arith, ints, h, whole)
+milliseconds_low (negsuc n) h = omega arith
+
+pub count_low : (g : SegmentGrid) (start : ℤ) (rows : List TimedRow) → IsTime start → All IsPlacedRow rows → cells g (milliseconds (lead_end start rows)) ≤ 2 ^ 42
+count_low g start rows time h =
+    let few = cells_small g (milliseconds (lead_end start rows)) in
+    let short = milliseconds_low (lead_end start rows) (end_low start rows (start_low start time) h) in
+    omega (arith, few, short)
+  where
+    start_low : (z : ℤ) → unsigned_abs z ≤ 2 ^ 41 → z ≤ℤ pos (2 ^ 43)
+    start_low (pos n) h = omega (arith, ints, h)
+    start_low (negsuc n) h = omega (arith, ints)
+
+pub one_low : (count : ℕ) → count ≤ 2 ^ 42 → All (λ (n : ℕ). n ≤ 2 ^ 42) (count ∷ [])
+one_low count h = All-cons (λ (n : ℕ). n ≤ 2 ^ 42) count [] h (All-nil (λ (n : ℕ). n ≤ 2 ^ 42))

@@ -1,0 +1,5 @@
+pub mod Cells
+pub mod Segments
+pub mod Needed
+pub mod Planned
+pub mod RowFaults

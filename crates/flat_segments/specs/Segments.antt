@@ -1,0 +1,47 @@
+-- The files and the rows of the pieces that a segment needs; this project's own.
+use Rattle.std.specs.Prelude.{◌≡◌, ℕ, List, [], length, map, slice_get, pos, All}
+use Rattle.std.specs.Option.{option_map_or}
+use Rattle.vod_types.specs.declared.tracks.Kind.{Kind}
+use Rattle.vod_types.specs.declared.tracks.Kind.TheVariants.{Video, Audio}
+use Rattle.vod_types.specs.SegmentRows.{SegmentRows}
+use Rattle.segment_model.specs.Laws.{PlaceRises}
+use Rattle.segment_model.specs.Timeline.{TrackRows}
+use Rattle.vod_source.specs.Stored.{Files, bytes_of}
+use Rattle.origin_model.specs.Loaded.{CheckedPiece}
+use Rattle.flat_segments.specs.declared.needed.NeededFile.{NeededFile}
+use Rattle.flat_segments.specs.declared.rows.FlatRows.{FlatRows}
+
+-- what is kept of the file of a piece: its name, its size, and the configurations of its asked tracks
+pub record FileFacts : Type 0 where
+  pub name : List ℕ
+  pub size : ℕ
+  pub video : List ℕ
+  pub audio : List ℕ
+
+abbrev pub file_of : CheckedPiece → FileFacts
+file_of c = record { name = c.piece.name; size = c.file_size; video = option_map_or (λ t. t.config) c.video []; audio = option_map_or (λ t. t.config) c.audio [] }
+
+abbrev pub facts_of : NeededFile → FileFacts
+facts_of f = record { name = f.name; size = f.size; video = f.video.items; audio = f.audio.items }
+
+abbrev pub config_of : Kind → FileFacts → List ℕ
+config_of Video f = f.video
+config_of Audio f = f.audio
+
+-- the rows with the names and the configurations of their files
+abbrev pub flat_rows_view : FlatRows → SegmentRows
+flat_rows_view r = record {
+  video = r.video.items;
+  audio = r.audio.items;
+  name = λ file. option_map_or (λ f. f.name) (slice_get (map facts_of r.files.items) file) [];
+  config = λ file kind. option_map_or (config_of kind) (slice_get (map facts_of r.files.items) file) [];
+}
+
+-- each is as long as the file of its name
+abbrev pub SizesAreTrue : Files → List NeededFile → Type 0
+SizesAreTrue files needed = All (λ f. length (bytes_of files f.name) ≡ f.size) needed
+
+-- rows that can be written: their times begin at 0 or later and don't fall
+pub record AreOrderedRows (rows : TrackRows) : Type 0 where
+  pub lead : PlaceRises (pos 0) rows.lead
+  pub other : PlaceRises (pos 0) rows.other

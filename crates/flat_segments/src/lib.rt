@@ -1,0 +1,19 @@
+//! A segment over the pieces that it needs: where its number stands among the cells of the parts, which pieces are looked at,
+//! the rows of its cell, the checks of these rows, and its bytes.
+#![tactic(auto)]
+
+mod body;
+mod cells;
+mod facts;
+mod needed;
+mod parts;
+mod row_checks;
+mod rows;
+mod segment;
+
+pub use body::fragment;
+pub use cells::{PartCells, end_of_lead, is_past, length_of, time_at};
+pub use needed::{Needed, NeededFile, needed_of};
+pub use parts::{Cut, counts_of, is_declared, part_at, parts_of, sum_of};
+pub use rows::FlatRows;
+pub use segment::segment_rows;

@@ -1,8 +1,0 @@
-use Rattle.std.proofs.Common.{◌≡◌, ◌++◌, drop}
-use Rattle.mp4_flat.specs.Planned.{declared_counts}
-use Rattle.mp4_flat.proofs.segment.counts_of.Given as goal
-
-abbrev pub invariant-loop-part : goal.invariant-loop-part
-invariant-loop-part l = record {
-  counts : l.counts.items ++ declared_counts l.grid (drop l.part-index l.parts) ≡ declared_counts l.grid l.parts;
-}
