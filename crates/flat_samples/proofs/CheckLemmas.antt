@@ -20,7 +20,7 @@ use Rattle.vod_source.specs.Stored.{Files}
 use Rattle.origin_model.specs.Loaded.{asked_track, checked, file_has, loaded, refusal_of_track, shown_track, track_of_kind}
 use Rattle.flat_samples.specs.Checks.{checked_in}
 use Rattle.flat_samples.specs.Shown.{view_in_file}
-use Rattle.flat_samples.proofs.Comings.{NotFailed, not_failed-found, not_failed-step}
+use Rattle.vod_source.proofs.CallLemmas.{NotFailed, not_failed-found, not_failed-step}
 
 module _ (piece : Piece) (m : Movie) where
   -- ---- the track that is shown

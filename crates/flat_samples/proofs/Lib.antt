@@ -1,4 +1,3 @@
-pub mod Comings
 pub mod ListViews
 pub mod ListLemmas
 pub mod SoundLemmas

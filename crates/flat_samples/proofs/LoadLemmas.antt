@@ -9,11 +9,12 @@ use Rattle.mp4_model.specs.declared.MoviePlace.{MoviePlace}
 use Rattle.mp4_model.specs.Movie.{FileFault, BadBox, NoMovie, MovieTooLong, Movie, movie, movie_place, movie_reads, place_reads, moov_reads, moov_bytes, moov_tracks, result_in_file}
 use Rattle.mp4_model.specs.Tracks.{Track}
 use Rattle.mp4_model.proofs.ResultsLemmas.{bind_ok}
+use Rattle.vod_source.specs.Calls.{AnswersUnlessFailed, LogsReads, Came}
 use Rattle.vod_source.specs.Ranges.{of_file, file_reads}
 use Rattle.vod_source.specs.Stored.{Files, Read, file_named, bytes_of}
 use Rattle.vod_source.specs.Told.{told_with, GrewByPrefix}
 use Rattle.vod_source.proofs.ToldLemmas.{told_with-more, GrewByPrefix-whole, GrewByPrefix-after, GrewByPrefix-front}
-use Rattle.mp4_source.specs.Places.{stored_place, stored_place_reads, refusal_of_fault, IsDueUnlessCut, GainsUnlessCut}
+use Rattle.mp4_source.specs.Places.{stored_place, stored_place_reads, refusal_of_fault}
 use Rattle.mp4_source.proofs.PlaceLemmas.{stored_place_reads-none, stored_place_reads-some}
 use Rattle.mp4_source.proofs.TurnLemmas.{absent, faulty, stored_place-ok, stored_place-err, movie_reads-ok, movie_reads-err}
 use Rattle.mp4_tracks.specs.declared.kept.Tracks.{Tracks}
@@ -23,7 +24,6 @@ use Rattle.mp4_tracks.specs.Made.{IsMadeOf, IsTracksOf, due_outcomes}
 use Rattle.origin_model.specs.Loaded.{loaded, refusal_of_file}
 use Rattle.origin_model.specs.Reads.{file_turn_reads}
 use Rattle.flat_samples.specs.declared.movies.MovieBytes.{MovieBytes}
-use Rattle.flat_samples.specs.Calls.{Came}
 use Rattle.flat_samples.specs.Held.{fetched, movie_due, refusal_in, HasPlaceInFile, LiesInFile}
 use Rattle.flat_samples.specs.Movies.{HeldMovie, movie_at}
 use Rattle.flat_samples.proofs.FaultPlaces.{moov_fault-place}
@@ -83,15 +83,15 @@ module _ (files : Files) (name : List ℕ) where
   abbrev Fetches : Result MovieBytes Refusal → Option (List Read) → Option (List Read) → Type 0
   Fetches result log now = Came bytes_view result (fetched files name) (file_turn_reads files name) log now
 
-  not_found : (r : Refusal) (log now : Option (List Read)) → IsDueUnlessCut {X = MoviePlace} (stored_place files name) (Err r)
-      → GainsUnlessCut {X = MoviePlace} log now (stored_place_reads files name) (Err r) → Fetches (Err r) log now
+  not_found : (r : Refusal) (log now : Option (List Read)) → AnswersUnlessFailed {X = MoviePlace} (λ p. p) (Err r) (stored_place files name)
+      → LogsReads {X = MoviePlace} (Err r) (stored_place_reads files name) log now → Fetches (Err r) log now
   not_found r log now due gains =
       let way = way_first in
       record {
-        answered = λ memory store. fetched-err r (due store memory);
+        answered = λ memory store. fetched-err r (due memory store);
         logged = (
           GrewByPrefix-front (stored_place_reads files name) way.rest (file_turn_reads files name) way.split gains.0,
-          λ memory store. gains.1 store memory ∙ ap (told_with log) (sym (reads-err r (due store memory))),
+          λ memory store. gains.1 memory store ∙ ap (told_with log) (sym (reads-err r (due memory store))),
         );
       }
 
@@ -176,8 +176,8 @@ module _ (name : List ℕ) where
   abbrev TellsLoad : Option Files → Result HeldMovie Refusal → Option (List Read) → Option (List Read) → Type 0
   TellsLoad content result log now = IfSome content (λ files. Came (λ (m : HeldMovie). m.movie) result (loaded files name) (file_turn_reads files name) log now)
 
-  pub told-not_found : (content : Option Files) (r : Refusal) (log now : Option (List Read)) → IfSome content (λ files. IsDueUnlessCut {X = MoviePlace} (stored_place files name) (Err r))
-      → IfSome content (λ files. GainsUnlessCut {X = MoviePlace} log now (stored_place_reads files name) (Err r)) → TellsFetch content (Err r) log now
+  pub told-not_found : (content : Option Files) (r : Refusal) (log now : Option (List Read)) → IfSome content (λ files. AnswersUnlessFailed {X = MoviePlace} (λ p. p) (Err r) (stored_place files name))
+      → IfSome content (λ files. LogsReads {X = MoviePlace} (Err r) (stored_place_reads files name) log now) → TellsFetch content (Err r) log now
   told-not_found None r log now due gains = tt
   told-not_found (Some files) r log now due gains = not_found files name r log now due gains
 

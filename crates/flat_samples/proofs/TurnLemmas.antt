@@ -12,7 +12,7 @@ use Rattle.vod_source.specs.Told.{told_with, GrewByPrefix}
 use Rattle.vod_source.proofs.ToldLemmas.{told_with-nil, GrewByPrefix-whole}
 use Rattle.origin_model.specs.Loaded.{loaded}
 use Rattle.origin_model.specs.Reads.{Turned, file_turn_reads, turn, turn_by}
-use Rattle.flat_samples.specs.Calls.{Came}
+use Rattle.vod_source.specs.Calls.{Came}
 use Rattle.flat_samples.specs.Held.{is_held, IsPlaceOf}
 use Rattle.flat_samples.specs.Movies.{HeldMovie, names_held, AreTrue, IsTurn}
 use Rattle.flat_samples.proofs.FaultPlaces.{all_get, all_take}

@@ -1,4 +1,3 @@
-pub mod Calls
 pub mod Movies
 pub mod Checks
 pub mod Rows

@@ -10,7 +10,7 @@ use Rattle.mp4_model.specs.Movie.{Movie, moov_tracks}
 use Rattle.vod_source.specs.Stored.{Files, Read}
 use Rattle.origin_model.specs.Loaded.{loaded}
 use Rattle.origin_model.specs.Reads.{Cache, turn}
-use Rattle.flat_samples.specs.Calls.{AnswersUnlessFailed, LogsReads}
+use Rattle.vod_source.specs.Calls.{AnswersUnlessFailed, LogsReads}
 
 -- a movie with the name of its file
 pub record HeldMovie : Type 0 where

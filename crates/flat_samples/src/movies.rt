@@ -7,7 +7,7 @@ ghost use Rattle.vod_types.specs.Results.{Answers};
 ghost use Rattle.vod_source.specs.Causes.{Rose};
 ghost use Rattle.origin_model.specs.Loaded.{loaded};
 ghost use Rattle.origin_model.specs.Reads.{file_turn_reads};
-ghost use Rattle.flat_samples.specs.Calls.{Came};
+ghost use Rattle.vod_source.specs.Calls.{Came};
 ghost use Rattle.flat_samples.specs.Held.{fetched, movie_due, refusal_in, is_held, HasPlaceInFile, IsPlaceOf, LiesInFile};
 ghost use Rattle.flat_samples.specs.Movies.{AreTrue, IsTurn, HeldMovie};
 

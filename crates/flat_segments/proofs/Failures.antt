@@ -12,7 +12,7 @@ use Rattle.segment_model.specs.Timeline.{TrackRows}
 use Rattle.media_model.specs.WritingOrder.{TrackRow}
 use Rattle.origin_model.specs.Loaded.{CheckedPiece}
 use Rattle.origin_model.specs.Samples.{segment_rows, in_order, sample_fault, name_at, size_at, greatest_size, is_backward, sizes_of, checked_rows}
-use Rattle.flat_samples.proofs.Comings.{NotFailed}
+use Rattle.vod_source.proofs.CallLemmas.{NotFailed}
 
 abbrev Other : Refusal → Type 0
 Other r = r ≢ refusals.StoreFailed

@@ -26,7 +26,7 @@ use Rattle.flat_segments.specs.declared.needed.Needed.{Needed}
 use Rattle.flat_segments.specs.declared.needed.NeededFile.{NeededFile}
 use Rattle.flat_samples.specs.declared.tracks.CheckedTracks.{CheckedTracks}
 use Rattle.flat_samples.proofs.CheckLemmas.{checked-in, checked_in-not_failed, not_loaded}
-use Rattle.flat_samples.proofs.Comings.{logs_all, refusal-not_failed}
+use Rattle.vod_source.proofs.CallLemmas.{logs_all, refusal-not_failed}
 
 -- ---- values
 

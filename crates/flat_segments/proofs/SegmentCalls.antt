@@ -36,7 +36,7 @@ use Rattle.origin_model.specs.Samples.{checked_rows}
 use Rattle.origin_model.specs.Sources.{is_declared, part_pieces, source_of, source_part, source_piece}
 use Rattle.origin_model.proofs.NeededFiles.{ends_after-source, needed_by-declared}
 use Rattle.origin_model.proofs.PieceOrder.{no_length, undeclared_part}
-use Rattle.flat_samples.specs.Calls.{AnswersUnlessFailed, LogsReads, Came}
+use Rattle.vod_source.specs.Calls.{AnswersUnlessFailed, LogsReads, Came}
 use Rattle.flat_segments.specs.Needed.{AreLooks, AreOfPieces, AreNeeded, looked_names, stops}
 use Rattle.flat_segments.specs.Planned.{cutting_of, declared_counts, piece_ends_after, place_among, segment_turns}
 use Rattle.flat_samples.specs.Rows.{part_rows, IsPlacedRow}
@@ -47,7 +47,7 @@ use Rattle.flat_segments.specs.declared.cells.PartCells.{PartCells}
 use Rattle.flat_segments.specs.declared.needed.Needed.{Needed}
 use Rattle.flat_segments.specs.declared.needed.NeededFile.{NeededFile}
 use Rattle.flat_segments.specs.declared.rows.FlatRows.{FlatRows}
-use Rattle.flat_samples.proofs.Comings.{refusal-not_failed, logs_all, logs_none}
+use Rattle.vod_source.proofs.CallLemmas.{refusal-not_failed, logs_all, logs_none}
 use Rattle.flat_segments.proofs.Failures.{rows_not_failed}
 use Rattle.flat_segments.proofs.Ordered.{ordered_cell}
 use Rattle.flat_segments.proofs.Places.{cells_small}

@@ -30,7 +30,7 @@ use Rattle.flat_segments.specs.declared.needed.NeededFile.{NeededFile}
 use Rattle.flat_samples.specs.declared.samples.TimedSample.{TimedSample}
 use Rattle.flat_segments.specs.Segments.{FileFacts, facts_of, file_of, SizesAreTrue}
 use Rattle.flat_segments.specs.declared.needed.Needed.{Needed}
-use Rattle.flat_samples.proofs.Comings.{LogsErr, logs_then, logs_ended}
+use Rattle.vod_source.proofs.CallLemmas.{LogsErr, logs_then, logs_ended}
 
 take_one_more : {X : Type 0} (count : ℕ) (xs : List X) (x : X) (rest : List X) → drop count xs ≡ x ∷ rest → take (count + 1) xs ≡ take count xs ++ x ∷ []
 take_one_more zero [] x rest e = absurd cc

@@ -17,7 +17,7 @@ use Rattle.origin_model.specs.Sources.{source_piece, source_of}
 use Rattle.flat_segments.specs.declared.cells.PartCells.{PartCells}
 use Rattle.flat_segments.specs.declared.needed.Needed.{Needed}
 use Rattle.flat_segments.specs.declared.needed.NeededFile.{NeededFile}
-use Rattle.flat_samples.specs.Calls.{LogsReads}
+use Rattle.vod_source.specs.Calls.{LogsReads}
 use Rattle.flat_samples.specs.Movies.{HeldMovie, AreTrue, names_held}
 use Rattle.flat_samples.specs.Rows.{part_rows, rows_with, ArePlacedRows}
 use Rattle.flat_segments.specs.Cells.{part_grid_of}

@@ -8,7 +8,7 @@ ghost use Rattle.vod_source.specs.Causes.{Rose};
 ghost use Rattle.vod_source.specs.Stored.{bytes_of};
 ghost use Rattle.fmp4_writer.specs.Progress.{AreWritable};
 ghost use Rattle.fmp4_writer.specs.Samples.{row_reads};
-ghost use Rattle.flat_samples.specs.Calls.{Came};
+ghost use Rattle.vod_source.specs.Calls.{Came};
 ghost use Rattle.flat_segments.specs.Segments.{flat_rows_view};
 
 use crate::rows::FlatRows;

@@ -15,7 +15,7 @@ ghost use Rattle.origin_model.specs.Loaded.{CheckedPiece};
 ghost use Rattle.origin_model.specs.Plans.{planned_segment};
 ghost use Rattle.origin_model.specs.Samples.{checked_rows as checked_rows_of};
 ghost use Rattle.origin_model.specs.Sources.{is_declared, source_piece};
-ghost use Rattle.flat_samples.specs.Calls.{Came};
+ghost use Rattle.vod_source.specs.Calls.{Came};
 ghost use Rattle.flat_samples.specs.Rows.{part_rows, ArePlacedRows};
 ghost use Rattle.flat_segments.specs.Cells.{part_grid_of};
 ghost use Rattle.flat_segments.specs.Needed.{AreNeeded};

@@ -17,9 +17,9 @@ use Rattle.list_model.specs.Path.{is_local}
 use Rattle.origin_model.specs.Requests.{Setup, asking_of, mapping_by, mapping_file}
 use Rattle.mp4_flat.specs.declared.asking.Asking.{Asking}
 use Rattle.mp4_flat.specs.Asked.{asking_view}
-use Rattle.flat_samples.specs.Calls.{Came}
+use Rattle.vod_source.specs.Calls.{Came}
 use Rattle.mp4_flat.specs.Mapped.{mapping_file_reads}
-use Rattle.flat_samples.proofs.Comings.{NotFailed, came-read, came-unread, not_failed-found, not_failed-step}
+use Rattle.vod_source.proofs.CallLemmas.{NotFailed, came-read, came-unread, not_failed-found, not_failed-step}
 
 -- ---- no mapping is refused as a failure of the store
 

@@ -23,12 +23,12 @@ use Rattle.origin_model.specs.Reads.{turn, turns}
 use Rattle.origin_model.specs.Requests.{first_piece, init_piece}
 use Rattle.flat_samples.specs.declared.tracks.CheckedTracks.{CheckedTracks}
 use Rattle.mp4_flat.specs.Asked.{init_names, part_init}
-use Rattle.flat_samples.specs.Calls.{Came, LogsReads}
+use Rattle.vod_source.specs.Calls.{Came, LogsReads}
 use Rattle.flat_samples.specs.Checks.{checked_in, checked_view}
 use Rattle.mp4_flat.specs.Inits.{init_in_movie, init_of_tracks, piece_init}
 use Rattle.flat_samples.specs.Movies.{AreTrue, HeldMovie, IsTurn, names_held}
 use Rattle.flat_samples.proofs.CheckLemmas.{checked-in, not_loaded}
-use Rattle.flat_samples.proofs.Comings.{came-read, came-unread}
+use Rattle.vod_source.proofs.CallLemmas.{came-read, came-unread}
 
 -- ---- the first piece of a part
 

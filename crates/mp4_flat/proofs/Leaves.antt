@@ -45,13 +45,13 @@ use Rattle.origin_model.specs.Requests.{Setup, Asking, asking_of, cutting, init_
 use Rattle.origin_model.proofs.Askings.{ask_in-range}
 use Rattle.mp4_flat.specs.Asked.{init_names, part_init}
 use Rattle.mp4_flat.specs.Built.{built_paths, is_built_leaf}
-use Rattle.flat_samples.specs.Calls.{AnswersUnlessFailed, LogsReads, Came}
+use Rattle.vod_source.specs.Calls.{AnswersUnlessFailed, LogsReads, Came}
 use Rattle.mp4_flat.specs.Flat.{IsAskAnswer, IsFlatAnswer, IsLeafAnswer, flat_seen, flat_shown, leaf_reads}
 use Rattle.flat_segments.specs.Planned.{cutting_of, segment_turns}
 use Rattle.flat_segments.specs.Segments.{flat_rows_view}
 use Rattle.mp4_flat.specs.declared.requests.FlatBody.{FlatBody}
 use Rattle.flat_segments.specs.declared.rows.FlatRows.{FlatRows}
-use Rattle.flat_samples.proofs.Comings.{NotFailed, not_failed-found, not_failed-step, refusal-not_failed, logs_ended, logs_then, logs_unmade, LogsErr}
+use Rattle.vod_source.proofs.CallLemmas.{NotFailed, not_failed-found, not_failed-step, refusal-not_failed, logs_ended, logs_then, logs_unmade, LogsErr}
 
 -- ---- calls, one after another
 

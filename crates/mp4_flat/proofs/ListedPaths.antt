@@ -26,10 +26,10 @@ use Rattle.origin_model.specs.Reads as reads
 use Rattle.origin_model.specs.Reads.{ask_reads, for_rows, further_names, looks_of, mapping_reads_by, path_reads, sample_reads, turn_names, turn_pieces, turns}
 use Rattle.origin_model.specs.Requests.{Setup, Asking, asking_of, cutting, timeline_asked}
 use Rattle.mp4_flat.specs.declared.listed_row.Listed.{Listed}
-use Rattle.flat_samples.specs.Calls.{AnswersUnlessFailed, LogsReads, Came}
+use Rattle.vod_source.specs.Calls.{AnswersUnlessFailed, LogsReads, Came}
 use Rattle.mp4_flat.specs.Listings.{AreListed, ask_rows, every_path, index_turns, listed_view, rows_turns}
 use Rattle.flat_segments.specs.Planned.{cutting_of}
-use Rattle.flat_samples.proofs.Comings.{logs_then, logs_unmade}
+use Rattle.vod_source.proofs.CallLemmas.{logs_then, logs_unmade}
 use Rattle.mp4_flat.proofs.Leaves.{ended}
 
 no_turns : (files : Files) → (turns files [] []).reads ≡ []

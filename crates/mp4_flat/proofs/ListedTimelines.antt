@@ -36,13 +36,13 @@ use Rattle.origin_model.proofs.Entries.{planned_rows-whole}
 use Rattle.origin_model.proofs.NeededFiles.{piece_of-checked}
 use Rattle.origin_model.proofs.PieceOrder.{undeclared_part}
 use Rattle.flat_segments.specs.declared.needed.Needed.{Needed}
-use Rattle.flat_samples.specs.Calls.{Came, LogsReads}
+use Rattle.vod_source.specs.Calls.{Came, LogsReads}
 use Rattle.mp4_flat.specs.ListedParts.{part_over, AreRowsOfParts}
 use Rattle.mp4_flat.specs.Listings.{rows_turns}
 use Rattle.flat_segments.specs.Needed.{AreLooks, AreNeeded, looked_names, stops}
 use Rattle.flat_segments.specs.Planned.{cutting_of, declared_counts}
 use Rattle.flat_samples.specs.Rows.{part_rows, IsPlacedRow}
-use Rattle.flat_samples.proofs.Comings.{came-read, came-unread}
+use Rattle.vod_source.proofs.CallLemmas.{came-read, came-unread}
 use Rattle.flat_samples.proofs.ListViews.{slice_range-map}
 use Rattle.flat_segments.proofs.Places.{follow-order}
 use Rattle.flat_segments.proofs.Ordered.{pieces_from_zero}

@@ -10,7 +10,7 @@ use Rattle.origin_model.specs.Answers.{answer, ask_answer, leaf_answer}
 use Rattle.origin_model.specs.Reads.{AreReads, ask_reads, turns, turn_names, sample_reads}
 use Rattle.origin_model.specs.Requests.{Setup, Asking}
 use Rattle.mp4_flat.specs.declared.requests.FlatBody.{FlatBody}
-use Rattle.flat_samples.specs.Calls.{AnswersUnlessFailed, LogsReads, Came}
+use Rattle.vod_source.specs.Calls.{AnswersUnlessFailed, LogsReads, Came}
 
 -- the file and the number of the bad sample before which a body ends
 abbrev pub cut_of : End → Option (ℕ × ℕ)

@@ -14,7 +14,7 @@ use Rattle.origin_model.specs.Lists.{listed_segments}
 use Rattle.origin_model.specs.Reads.{AreReads, for_rows, turn_names, turns}
 use Rattle.origin_model.specs.Requests.{Setup, Asking, asking_of}
 use Rattle.mp4_flat.specs.declared.listed_row.Listed.{Listed}
-use Rattle.flat_samples.specs.Calls.{AnswersUnlessFailed, LogsReads}
+use Rattle.vod_source.specs.Calls.{AnswersUnlessFailed, LogsReads}
 
 -- the rows of every media playlist are listed, whether it is answered yet or not
 abbrev pub every_path : Ask → Bool

@@ -13,7 +13,7 @@ ghost use Rattle.list_model.specs.Path.{is_local as is_local_place};
 ghost use Rattle.origin_model.specs.Reads.{mapping_reads_by};
 ghost use Rattle.origin_model.specs.Requests.{asking_of as asking_of_ask, mapping_by as mapping_by_target, mapping_file as mapping_of_file, target_names};
 ghost use Rattle.mp4_flat.specs.Asked.{asking_view, setup_of};
-ghost use Rattle.flat_samples.specs.Calls.{Came};
+ghost use Rattle.vod_source.specs.Calls.{Came};
 ghost use Rattle.mp4_flat.specs.Mapped.{mapping_file_reads};
 
 use clip_map::{Mapping, read_mapping};

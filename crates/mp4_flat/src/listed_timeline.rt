@@ -10,7 +10,7 @@ ghost use Rattle.vod_source.specs.Causes.{Rose};
 ghost use Rattle.origin_model.specs.Loaded.{CheckedPiece};
 ghost use Rattle.origin_model.specs.Plans.{few_cells as few_cells_of, planned_rows};
 ghost use Rattle.origin_model.specs.Sources.{is_declared, source_piece};
-ghost use Rattle.flat_samples.specs.Calls.{Came};
+ghost use Rattle.vod_source.specs.Calls.{Came};
 ghost use Rattle.mp4_flat.specs.ListedParts.{part_over};
 ghost use Rattle.mp4_flat.specs.Listings.{listed_view, rows_turns};
 ghost use Rattle.flat_segments.specs.Needed.{AreLooks, AreNeeded};

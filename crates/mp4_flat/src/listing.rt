@@ -11,7 +11,7 @@ ghost use Rattle.origin_model.specs.Lists.{listed_segments};
 ghost use Rattle.origin_model.specs.Reads.{ask_reads};
 ghost use Rattle.origin_model.specs.Requests.{target_names};
 ghost use Rattle.mp4_flat.specs.Asked.{asking_view, setup_of};
-ghost use Rattle.flat_samples.specs.Calls.{Came};
+ghost use Rattle.vod_source.specs.Calls.{Came};
 ghost use Rattle.mp4_flat.specs.Listings.{AreListed, ask_rows as ask_rows_of, index_turns, listed_view};
 
 use crate::asking::{Asking, asking_of};

@@ -6,13 +6,15 @@ use Rattle.vod_types.specs.declared.Refusal.TheVariants as refusals
 use Rattle.mp4_model.specs.declared.MoviePlace.{MoviePlace}
 use Rattle.mp4_model.specs.Movie.{FileFault, moov_among, movie_place, place_reads}
 use Rattle.mp4_model.specs.Movie as movie
+use Rattle.vod_source.specs.Calls.{AnswersUnlessFailed, LogsReads}
 use Rattle.vod_source.specs.Ranges.{of_file}
 use Rattle.vod_source.specs.Stored.{Files, Read, InFile, file_named, size_of, bytes_of}
 use Rattle.vod_source.specs.Told.{told_with, GrewByPrefix}
-use Rattle.vod_source.proofs.ToldLemmas.{told_with-nil, GrewByPrefix-whole}
+use Rattle.vod_source.proofs.CallLemmas.{logs_all}
+use Rattle.vod_source.proofs.ToldLemmas.{told_with-nil}
 use Rattle.mp4_source.specs.declared.seek.SeekFault.{SeekFault}
 use Rattle.mp4_source.specs.declared.seek.SeekFault.TheVariants.{StoreFailed, BadBox, NoMovie, MovieTooLong}
-use Rattle.mp4_source.specs.Places.{refusal_of_fault, stored_place, stored_place_reads, IsReadable, IsPlaceRefusal, IsDueUnlessCut, GainsUnlessCut}
+use Rattle.mp4_source.specs.Places.{refusal_of_fault, stored_place, stored_place_reads, IsReadable, IsPlaceRefusal}
 use Rattle.mp4_source.specs.Sought.{refusal_of, GainsHeaders, IsSought}
 
 abbrev answered : MoviePlace → Result MoviePlace Refusal
@@ -97,44 +99,44 @@ abbrev Named : Refusal → Refusal → Type 0
 Named due r = (r ≡ refusals.NoMemory) ⊎ (r ≡ due)
 
 module _ (due : Result MoviePlace Refusal) (named r : Refusal) where
-  due-named : due ≡ Err named → Named named r → IsDueUnlessCut due (Err r)
-  due-named e (inl none) = λ store memory. absurd (memory none)
-  due-named e (inr is) = λ store memory. e ∙ ap (λ (x : Refusal). Err x) (sym is)
+  due-named : due ≡ Err named → Named named r → AnswersUnlessFailed {X = MoviePlace} (λ p. p) (Err r) due
+  due-named e (inl none) = λ memory store. absurd (memory none)
+  due-named e (inr is) = λ memory store. e ∙ ap (λ (x : Refusal). Err x) (sym is)
 
-  due-cut : Named refusals.StoreFailed r → IsDueUnlessCut due (Err r)
-  due-cut (inl none) = λ store memory. absurd (memory none)
-  due-cut (inr is) = λ store memory. absurd (store is)
+  due-cut : Named refusals.StoreFailed r → AnswersUnlessFailed {X = MoviePlace} (λ p. p) (Err r) due
+  due-cut (inl none) = λ memory store. absurd (memory none)
+  due-cut (inr is) = λ memory store. absurd (store is)
 
 module _ (name : List ℕ) where
   pub told-no_file : (content : Option Files) (r : Refusal) → IfSome content (λ files. None ≡ size_of files name) → Named (refusals.NoFile name) r
-      → IfSome content (λ files. IsDueUnlessCut {X = MoviePlace} (stored_place files name) (Err r))
+      → IfSome content (λ files. AnswersUnlessFailed {X = MoviePlace} (λ p. p) (Err r) (stored_place files name))
   told-no_file None r none named = tt
   told-no_file (Some files) r none named = due-named (stored_place files name) (refusals.NoFile name) r (stored_place-none files name (absent files name none)) named
 
   pub log-no_file : (content : Option Files) (r : Refusal) (before now : Option (List Read)) → IfSome content (λ files. None ≡ size_of files name) → now ≡ before
-      → IfSome content (λ files. GainsUnlessCut {X = MoviePlace} before now (stored_place_reads files name) (Err r))
+      → IfSome content (λ files. LogsReads {X = MoviePlace} (Err r) (stored_place_reads files name) before now)
   log-no_file None r before now none same = tt
   log-no_file (Some files) r before now none same =
-      let whole : now ≡ told_with before (stored_place_reads files name) = same ∙ sym (told_with-nil before) ∙ ap (told_with before) (sym (stored_place_reads-none files name (absent files name none))) in
-      (GrewByPrefix-whole before now (stored_place_reads files name) whole, λ store memory. whole)
+      logs_all {X = MoviePlace} (Err r) (stored_place_reads files name) before now
+      (same ∙ sym (told_with-nil before) ∙ ap (told_with before) (sym (stored_place_reads-none files name (absent files name none))))
 
   module _ (file_size : ℕ) where
     abbrev Sized : Option Files → Type 0
     Sized content = IfSome content (λ files. Some file_size ≡ size_of files name)
 
     pub told-found : (content : Option Files) (at size : ℕ) → Sized content → IfSome content (λ files. IsSought (bytes_of files name) (Ok (at, size)))
-        → IfSome content (λ files. IsDueUnlessCut (stored_place files name) (Ok (record { file_size = file_size; at = at; size = size })))
+        → IfSome content (λ files. AnswersUnlessFailed (λ p. p) (Ok (record { file_size = file_size; at = at; size = size })) (stored_place files name))
     told-found None at size sized sought = tt
     told-found (Some files) at size sized sought = place-found files name file_size at size sized sought
 
     pub log-found : (content : Option Files) (place : MoviePlace) (before now : Option (List Read)) → Sized content
         → IfSome content (λ files. now ≡ told_with before (of_file name (place_reads (bytes_of files name))))
-        → IfSome content (λ files. GainsUnlessCut before now (stored_place_reads files name) (Ok place))
+        → IfSome content (λ files. LogsReads (Ok place) (stored_place_reads files name) before now)
     log-found None place before now sized log = tt
     log-found (Some files) place before now sized log = log ∙ ap (told_with before) (sym (reads-some files name file_size sized))
 
     pub told-fault : (content : Option Files) (fault : SeekFault) (r : Refusal) → Sized content → IfSome content (λ files. IsSought (bytes_of files name) (Err fault))
-        → Named (refusal_of name fault) r → IfSome content (λ files. IsDueUnlessCut {X = MoviePlace} (stored_place files name) (Err r))
+        → Named (refusal_of name fault) r → IfSome content (λ files. AnswersUnlessFailed {X = MoviePlace} (λ p. p) (Err r) (stored_place files name))
     told-fault None fault r sized sought named = tt
     told-fault (Some files) StoreFailed r sized sought named = due-cut (stored_place files name) refusals.StoreFailed r named
     told-fault (Some files) (BadBox at) r sized sought named = due-named (stored_place files name) (refusals.BadBox name at) r (place-refused files name file_size (movie.BadBox at) sized sought) named
@@ -142,13 +144,12 @@ module _ (name : List ℕ) where
     told-fault (Some files) (MovieTooLong size) r sized sought named = due-named (stored_place files name) (refusals.MovieTooLong name size) r (place-refused files name file_size (movie.MovieTooLong size) sized sought) named
 
     module _ (files : Files) (r : Refusal) (before now : Option (List Read)) (sized : Some file_size ≡ size_of files name) where
-      gains-whole : now ≡ told_with before (of_file name (place_reads (bytes_of files name))) → GainsUnlessCut {X = MoviePlace} before now (stored_place_reads files name) (Err r)
+      gains-whole : now ≡ told_with before (of_file name (place_reads (bytes_of files name))) → LogsReads {X = MoviePlace} (Err r) (stored_place_reads files name) before now
       gains-whole log =
-          let whole : now ≡ told_with before (stored_place_reads files name) = log ∙ ap (told_with before) (sym (reads-some files name file_size sized)) in
-          (GrewByPrefix-whole before now (stored_place_reads files name) whole, λ store memory. whole)
+          logs_all {X = MoviePlace} (Err r) (stored_place_reads files name) before now (log ∙ ap (told_with before) (sym (reads-some files name file_size sized)))
 
-      gains-cut : Named refusals.StoreFailed r → GrewByPrefix before now (of_file name (place_reads (bytes_of files name))) → GainsUnlessCut {X = MoviePlace} before now (stored_place_reads files name) (Err r)
-      gains-cut named log = (subst (GrewByPrefix before now) (sym (reads-some files name file_size sized)) log, λ store memory. absurd (never named store memory))
+      gains-cut : Named refusals.StoreFailed r → GrewByPrefix before now (of_file name (place_reads (bytes_of files name))) → LogsReads {X = MoviePlace} (Err r) (stored_place_reads files name) before now
+      gains-cut named log = (subst (GrewByPrefix before now) (sym (reads-some files name file_size sized)) log, λ memory store. absurd (never named store memory))
         where
           never : Named refusals.StoreFailed r → (r ≡ refusals.StoreFailed → ⊥) → (r ≡ refusals.NoMemory → ⊥) → ⊥
           never (inl none) store memory = memory none
@@ -156,7 +157,7 @@ module _ (name : List ℕ) where
 
     pub log-fault : (content : Option Files) (fault : SeekFault) (r : Refusal) (before now : Option (List Read)) → Sized content
         → IfSome content (λ files. GainsHeaders {X = ℕ × ℕ} before now name (place_reads (bytes_of files name)) (Err fault)) → Named (refusal_of name fault) r
-        → IfSome content (λ files. GainsUnlessCut {X = MoviePlace} before now (stored_place_reads files name) (Err r))
+        → IfSome content (λ files. LogsReads {X = MoviePlace} (Err r) (stored_place_reads files name) before now)
     log-fault None fault r before now sized log named = tt
     log-fault (Some files) StoreFailed r before now sized log named = gains-cut files r before now sized named log
     log-fault (Some files) (BadBox at) r before now sized log named = gains-whole files r before now sized log

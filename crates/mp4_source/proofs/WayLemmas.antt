@@ -4,7 +4,7 @@ use Rattle.std.proofs.lemmas.List.{map-append}
 use Rattle.std.proofs.lemmas.Bool.{le-leb, ne_eqb}
 use Rattle.mp4_model.specs.declared.BoxHead.{BoxHead}
 use Rattle.mp4_model.specs.Boxes.{header}
-use Rattle.mp4_model.specs.Movie.{FileFault, moov_of_size, moov_among, header_reads, place_reads}
+use Rattle.mp4_model.specs.Movie.{FileFault, moov_among, header_reads, place_reads}
 use Rattle.mp4_model.specs.Movie as movie
 use Rattle.mp4_model.proofs.BoxesLemmas.{header_no_room, size_at_least_eight, size_within}
 use Rattle.mp4_model.proofs.MovieWalk.{moov_among-none, moov_among-step, moov_among-end, header_reads-none, header_reads-step, header_reads-end}

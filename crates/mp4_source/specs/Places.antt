@@ -1,5 +1,5 @@
 -- What is answered for the place of a movie in a stored file, and what is read on the way; this project's own.
-use Rattle.std.specs.Prelude.{◌≡◌, ◌≢◌, ℕ, ◌+◌, ◌≤◌, List, [], ◌⊎◌, Option, ok_or, Result, Ok, Err}
+use Rattle.std.specs.Prelude.{◌≡◌, ℕ, ◌+◌, ◌≤◌, List, [], ◌⊎◌, ok_or, Result}
 use Rattle.std.specs.Option.{option_map_or}
 use Rattle.std.specs.Result.{result_map_both}
 use Rattle.vod_types.specs.declared.Refusal.{Refusal}
@@ -9,7 +9,6 @@ use Rattle.mp4_model.specs.declared.MoviePlace.{MoviePlace}
 use Rattle.mp4_model.specs.Movie.{FileFault, BadBox, NoMovie, MovieTooLong, movie_place, place_reads}
 use Rattle.vod_source.specs.Ranges.{of_file}
 use Rattle.vod_source.specs.Stored.{Files, Read, file_named}
-use Rattle.vod_source.specs.Told.{told_with, GrewByPrefix}
 
 -- ---- the place
 
@@ -40,16 +39,3 @@ IsPlaceRefusal name r =
 -- the reads that find it
 unfoldable pub stored_place_reads : Files → List ℕ → List Read
 stored_place_reads files name = of_file name (option_map_or place_reads (file_named files name) [])
-
--- ---- calls that a failure of the store or want of memory may cut short
-
--- What was answered is what is due.
-abbrev pub IsDueUnlessCut : {X : Type 0} → Result X Refusal → Result X Refusal → Type 0
-IsDueUnlessCut due (Ok x) = due ≡ Ok x
-IsDueUnlessCut due (Err r) = r ≢ refusals.StoreFailed → r ≢ refusals.NoMemory → due ≡ Err r
-
--- The log gained all of these reads, or a prefix of them.
-abbrev pub GainsUnlessCut : {X : Type 0} → Option (List Read) → Option (List Read) → List Read → Result X Refusal → Type 0
-GainsUnlessCut before now all (Ok x) = now ≡ told_with before all
-GainsUnlessCut before now all (Err r) =
-    GrewByPrefix before now all × (r ≢ refusals.StoreFailed → r ≢ refusals.NoMemory → now ≡ told_with before all)

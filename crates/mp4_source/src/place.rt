@@ -2,8 +2,9 @@
 
 ghost use Rattle.std.specs.Prelude.{◌≡◌, ◌≤◌, ◌⊎◌, IfOk, IfErr, IfSome, IsErrOf, MatchResult};
 ghost use Rattle.vod_types.specs.declared.Refusal.TheVariants.{NoMemory};
+ghost use Rattle.vod_source.specs.Calls.{AnswersUnlessFailed, LogsReads};
 ghost use Rattle.vod_source.specs.Causes.{Rose};
-ghost use Rattle.mp4_source.specs.Places.{stored_place, stored_place_reads, IsReadable, IsPlaceRefusal, IsDueUnlessCut, GainsUnlessCut};
+ghost use Rattle.mp4_source.specs.Places.{stored_place, stored_place_reads, IsReadable, IsPlaceRefusal};
 ghost use Rattle.mp4_source.specs.Sought.{refusal_of};
 
 use crate::seek::{SeekFault, seek};
@@ -21,9 +22,9 @@ use vod_types::{Name, Refusal};
 /// call on the store failed, and `NoMemory` where there is none for the name in a refusal.
 pub fn find<S: Store>(alloc: Global, store: &mut S, name: &str) -> Result<MoviePlace, Refusal>
     ensures content { S.content store.new ≡ S.content store.old }
-    ensures told { IfSome (S.content store.old) (λ files. IsDueUnlessCut (stored_place files name.now) result) }
+    ensures told { IfSome (S.content store.old) (λ files. AnswersUnlessFailed (λ place. place) result (stored_place files name.now)) }
     ensures log { IfSome (S.content store.old) (λ files.
-        GainsUnlessCut (S.log store.old) (S.log store.new) (stored_place_reads files name.now) result) }
+        LogsReads result (stored_place_reads files name.now) (S.log store.old) (S.log store.new)) }
     ensures readable { IfOk result IsReadable }
     ensures refused { IfErr result (IsPlaceRefusal name.now) }
     ensures later { S.faults store.old ≤ S.faults store.new }

@@ -13,7 +13,7 @@ use Rattle.origin_model.specs.Outcomes.{AreRequestReads, Due, GainsDue, GainsRea
 use Rattle.origin_model.specs.Reads.{AreReads, for_rows, path_reads}
 use Rattle.origin_model.specs.Requests.{Setup}
 use Rattle.mp4_flat.specs.declared.listed_row.Listed.{Listed}
-use Rattle.flat_samples.specs.Calls.{LogsReads}
+use Rattle.vod_source.specs.Calls.{LogsReads}
 use Rattle.mp4_flat.specs.Flat.{IsFlatAnswer, flat_seen}
 use Rattle.mp4_flat.specs.Listings.{AreListed, every_path, listed_view}
 use Rattle.vod_app.specs.Runs.{AreSettingsRead, IsAnswerWritten, IsGet, IsPlan, IsPlanWritten, IsRun, IsWritten, refused_outcome}

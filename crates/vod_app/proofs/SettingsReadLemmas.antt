@@ -22,7 +22,7 @@ use Rattle.vod_source.specs.Stored.{Files, Read, file_named, size_of, bytes_at, 
 use Rattle.vod_source.specs.Told.{told_with}
 use Rattle.vod_source.proofs.ToldLemmas.{told_with-nil, GrewByPrefix-same}
 use Rattle.origin_model.specs.Outcomes.{settings_named, settings_reads, settings_file_reads}
-use Rattle.flat_samples.proofs.Comings.{answers_unless, logs_all}
+use Rattle.vod_source.proofs.CallLemmas.{answers_unless, logs_all}
 use Rattle.vod_app.specs.Runs.{AreSettingsRead}
 
 -- ---- names

@@ -10,7 +10,7 @@ use Rattle.origin_model.specs.Answers.{answer, path_rows}
 use Rattle.origin_model.specs.Outcomes.{AreRunReads, Due, GainsDue, GainsLine, GainsReads, due_answer, due_rows, get_due, plan_due, settings_named, settings_reads}
 use Rattle.origin_model.specs.Reads.{AreReads, for_rows}
 use Rattle.origin_model.specs.Requests.{Setup}
-use Rattle.flat_samples.specs.Calls.{AnswersUnlessFailed, LogsReads}
+use Rattle.vod_source.specs.Calls.{AnswersUnlessFailed, LogsReads}
 use Rattle.vod_app.specs.declared.ends.End.{End}
 use Rattle.vod_app.specs.declared.ends.End.TheVariants as ends
 

@@ -1,4 +1,4 @@
-use Rattle.flat_samples.proofs.Comings.{told_with_all}
+use Rattle.vod_source.proofs.CallLemmas.{told_with_all}
 use Rattle.vod_app.proofs.run.Goals as goal
 
 pub returns-clause-get : goal.returns-clause-get

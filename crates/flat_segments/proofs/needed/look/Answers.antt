@@ -1,4 +1,4 @@
-use Rattle.flat_samples.proofs.Comings.{told_with_all}
+use Rattle.vod_source.proofs.CallLemmas.{told_with_all}
 use Rattle.flat_segments.proofs.Looks.{renamed, look_unloaded, look_unchecked, look_taken, added_refused, same_err}
 use Rattle.flat_segments.proofs.needed.look.Goals as goal
 

@@ -1,7 +1,7 @@
 use Rattle.seq_timeline.proofs.PieceLemmas.{drop_item}
 use Rattle.std.proofs.Common.{◌≡◌, ◌≤◌, ◌+◌, ◌<◌, List, length, sym, ap, ◌∙◌, arith, refl}
 use Rattle.std.proofs.lemmas.List.{drop_all}
-use Rattle.flat_samples.proofs.Comings.{told_all, told_with_all, told_with_other}
+use Rattle.vod_source.proofs.CallLemmas.{told_all, told_with_all, told_with_other}
 use Rattle.flat_segments.proofs.Walks.{longer, none_of_first, loop_begins, of_one_more, one_file_more, loop_refused, loop_on, loop_ended, loop_through, shown_is}
 use Rattle.flat_segments.proofs.needed.needed_of.Goals as goal
 

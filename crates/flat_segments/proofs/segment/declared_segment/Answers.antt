@@ -3,7 +3,7 @@ use Rattle.std.proofs.lemmas.Int.{to_z-of_z}
 use Rattle.flat_segments.specs.Cells.{part_grid_of}
 use Rattle.std.specs.List.{position_or_len}
 use Rattle.flat_segments.specs.Planned.{piece_ends_after}
-use Rattle.flat_samples.proofs.Comings.{told_all, told_with_all}
+use Rattle.vod_source.proofs.CallLemmas.{told_all, told_with_all}
 use Rattle.flat_segments.proofs.SegmentCalls.{came_unread, needed_ordered, none_among, stands_at, stands_found, stands_refused}
 use Rattle.flat_segments.proofs.segment.declared_segment.Goals as goal
 

@@ -4,7 +4,7 @@ use Rattle.segment_model.specs.Grid.{cells, milliseconds}
 use Rattle.segment_model.specs.Timeline.{lead_end}
 use Rattle.flat_samples.specs.Rows.{timed_view}
 use Rattle.flat_segments.specs.Cells.{part_grid_of}
-use Rattle.flat_samples.proofs.Comings.{told_with_all}
+use Rattle.vod_source.proofs.CallLemmas.{told_with_all}
 use Rattle.flat_segments.proofs.SegmentCalls.{count_low, needed_ordered, one_low, open_found, open_refused, open_unplaced, some_part}
 use Rattle.flat_segments.proofs.segment.open_segment.Goals as goal
 

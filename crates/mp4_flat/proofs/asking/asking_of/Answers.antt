@@ -1,5 +1,5 @@
 use Rattle.std.proofs.Common.{refl}
-use Rattle.flat_samples.proofs.Comings.{told_with_all}
+use Rattle.vod_source.proofs.CallLemmas.{told_with_all}
 use Rattle.mp4_flat.proofs.AskingLemmas.{asked-ok, asked-err}
 use Rattle.mp4_flat.proofs.asking.asking_of.Goals as goal
 

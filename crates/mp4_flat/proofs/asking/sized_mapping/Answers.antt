@@ -1,7 +1,7 @@
 use Rattle.std.proofs.Common.{arith, subst}
 use Rattle.clip_model.specs.Walk.{mapping_of}
 use Rattle.vod_types.specs.Results.{Answers}
-use Rattle.flat_samples.proofs.Comings.{told_with_all, told_with_both, answers-not_failed}
+use Rattle.vod_source.proofs.CallLemmas.{told_with_all, told_with_both, answers-not_failed}
 use Rattle.mp4_flat.proofs.AskingLemmas.{mapping_of-not_failed, mapping-long, mapping-read}
 use Rattle.mp4_flat.proofs.asking.sized_mapping.Goals as goal
 

@@ -1,9 +1,9 @@
 use Rattle.std.proofs.Common.{ap, sym, subst, ◌∙◌}
 use Rattle.vod_source.specs.Stored.{size_of}
 use Rattle.origin_model.specs.Requests.{mapping_file}
-use Rattle.flat_samples.specs.Calls.{Came}
+use Rattle.vod_source.specs.Calls.{Came}
 use Rattle.mp4_flat.specs.Mapped.{mapping_file_reads}
-use Rattle.flat_samples.proofs.Comings.{told_with_all}
+use Rattle.vod_source.proofs.CallLemmas.{told_with_all}
 use Rattle.mp4_flat.proofs.AskingLemmas.{mapping-absent}
 use Rattle.mp4_flat.proofs.asking.stored_mapping.Goals as goal
 

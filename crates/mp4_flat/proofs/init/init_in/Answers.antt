@@ -1,4 +1,4 @@
-use Rattle.flat_samples.proofs.Comings.{refusal-not_failed}
+use Rattle.vod_source.proofs.CallLemmas.{refusal-not_failed}
 use Rattle.mp4_flat.proofs.InitLemmas.{written-answers}
 use Rattle.flat_samples.proofs.CheckLemmas.{checked_in-not_failed}
 use Rattle.mp4_flat.proofs.init.init_in.Goals as goal

@@ -1,4 +1,4 @@
-use Rattle.flat_samples.proofs.Comings.{told_all}
+use Rattle.vod_source.proofs.CallLemmas.{told_all}
 use Rattle.mp4_flat.proofs.InitLemmas.{part-refused}
 use Rattle.mp4_flat.proofs.init.init_of_part.Goals as goal
 

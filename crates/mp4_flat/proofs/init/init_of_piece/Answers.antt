@@ -1,4 +1,4 @@
-use Rattle.flat_samples.proofs.Comings.{told_with_all}
+use Rattle.vod_source.proofs.CallLemmas.{told_with_all}
 use Rattle.mp4_flat.proofs.InitLemmas.{piece-loaded, piece-refused}
 use Rattle.mp4_flat.proofs.init.init_of_piece.Goals as goal
 

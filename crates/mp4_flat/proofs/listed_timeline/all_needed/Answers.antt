@@ -1,4 +1,4 @@
-use Rattle.flat_samples.proofs.Comings.{told_with_all}
+use Rattle.vod_source.proofs.CallLemmas.{told_with_all}
 use Rattle.mp4_flat.proofs.ListedTimelines.{looks_at_all}
 use Rattle.mp4_flat.proofs.listed_timeline.all_needed.Goals as goal
 

@@ -1,7 +1,7 @@
 use Rattle.std.proofs.Common.{◌≡◌, map, ap, sym, ◌∙◌}
 use Rattle.mp4_flat.specs.Listings.{listed_view}
 use Rattle.flat_segments.specs.Planned.{declared_counts}
-use Rattle.flat_samples.proofs.Comings.{told_all, told_with_all}
+use Rattle.vod_source.proofs.CallLemmas.{told_all, told_with_all}
 use Rattle.mp4_flat.proofs.ListedTimelines.{came_many, came_refused, came_listed, counts_by, declared_few, declared_many}
 use Rattle.mp4_flat.proofs.listed_timeline.declared_rows.Goals as goal
 

@@ -4,7 +4,7 @@ use Rattle.segment_model.specs.Grid.{cells}
 use Rattle.segment_model.specs.Rows.{TimedRow}
 use Rattle.mp4_flat.specs.Listings.{listed_view}
 use Rattle.flat_samples.specs.Rows.{timed_view, IsPlacedRow}
-use Rattle.flat_samples.proofs.Comings.{told_with_all}
+use Rattle.vod_source.proofs.CallLemmas.{told_with_all}
 use Rattle.mp4_flat.proofs.ListedTimelines.{all_open, came_refused, came_late, came_listed, count_small, one_count, open_counts, few_by, many_by}
 use Rattle.mp4_flat.proofs.listed_timeline.open_rows.Goals as goal
 

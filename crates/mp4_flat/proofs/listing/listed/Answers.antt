@@ -1,7 +1,7 @@
 use Rattle.std.proofs.Common.{Vec, Global, []}
 use Rattle.mp4_flat.specs.declared.listed_row.Listed.{Listed}
 use Rattle.mp4_flat.specs.Asked.{setup_of}
-use Rattle.flat_samples.proofs.Comings.{told_all, told_with_all}
+use Rattle.vod_source.proofs.CallLemmas.{told_all, told_with_all}
 use Rattle.mp4_flat.proofs.Leaves.{few_names}
 use Rattle.mp4_flat.proofs.ListedPaths.{path_refused, other_refused, path_answered}
 use Rattle.mp4_flat.proofs.listing.listed.Goals as goal

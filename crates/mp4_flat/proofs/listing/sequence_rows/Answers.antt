@@ -2,7 +2,7 @@ use Rattle.std.proofs.Common.{map, ap, ap₂}
 use Rattle.mp4_flat.specs.Asked.{asking_view, setup_of}
 use Rattle.mp4_flat.specs.Listings.{listed_view}
 use Rattle.flat_segments.specs.Planned.{cutting_of}
-use Rattle.flat_samples.proofs.Comings.{told_all, told_with_all}
+use Rattle.vod_source.proofs.CallLemmas.{told_all, told_with_all}
 use Rattle.mp4_flat.proofs.ListedPaths.{sequence_untimed, sequence_timed}
 use Rattle.mp4_flat.proofs.listing.sequence_rows.Goals as goal
 

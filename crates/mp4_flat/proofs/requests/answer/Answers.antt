@@ -1,6 +1,6 @@
 use Rattle.std.proofs.Common.{sym, ◌∙◌, []}
 use Rattle.mp4_flat.specs.Asked.{setup_of}
-use Rattle.flat_samples.proofs.Comings.{told_all, told_with_all}
+use Rattle.vod_source.proofs.CallLemmas.{told_all, told_with_all}
 use Rattle.mp4_flat.proofs.Leaves.{built_is_readable, built_leaf, few_names, form_refused, path_answered, path_refused}
 use Rattle.mp4_flat.proofs.requests.answer.Goals as goal
 

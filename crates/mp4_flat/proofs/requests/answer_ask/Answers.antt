@@ -1,5 +1,5 @@
 use Rattle.mp4_flat.specs.Asked.{asking_view, setup_of}
-use Rattle.flat_samples.proofs.Comings.{told_with_all, told_with_other}
+use Rattle.vod_source.proofs.CallLemmas.{told_with_all, told_with_other}
 use Rattle.mp4_flat.proofs.Leaves.{answered_at, ask_refused, built_form}
 use Rattle.mp4_flat.proofs.requests.answer_ask.Goals as goal
 

@@ -1,6 +1,6 @@
 use Rattle.std.proofs.Common.{refl}
 use Rattle.mp4_flat.specs.Asked.{asking_view, setup_of}
-use Rattle.flat_samples.proofs.Comings.{told_all, told_with_all}
+use Rattle.vod_source.proofs.CallLemmas.{told_all, told_with_all}
 use Rattle.mp4_flat.proofs.Leaves.{init_err, init_ok, init_untimed}
 use Rattle.mp4_flat.proofs.requests.init_answer.Goals as goal
 

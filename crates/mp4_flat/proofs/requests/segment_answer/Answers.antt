@@ -1,6 +1,6 @@
 use Rattle.std.proofs.Common.{ap, refl}
 use Rattle.mp4_flat.specs.Asked.{asking_view, setup_of}
-use Rattle.flat_samples.proofs.Comings.{told_all, told_with_all, told_with_other}
+use Rattle.vod_source.proofs.CallLemmas.{told_all, told_with_all, told_with_other}
 use Rattle.mp4_flat.proofs.Leaves.{recut, segment_err, segment_ok, segment_refused, segment_untimed}
 use Rattle.mp4_flat.proofs.requests.segment_answer.Goals as goal
 

@@ -1,6 +1,6 @@
 use Rattle.vod_app.specs.Commands.{requested}
 use Rattle.vod_app.proofs.RunLemmas.{planned_of, planned_with}
-use Rattle.flat_samples.proofs.Comings.{told_with_all, told_with_other}
+use Rattle.vod_source.proofs.CallLemmas.{told_with_all, told_with_other}
 use Rattle.vod_app.proofs.plans.plan.Goals as goal
 
 pub returns-in-Err-clause-planned : goal.returns-in-Err-clause-planned

@@ -1,5 +1,5 @@
 use Rattle.vod_app.proofs.RunLemmas.{plan_refused, plan_written}
-use Rattle.flat_samples.proofs.Comings.{told_with_all}
+use Rattle.vod_source.proofs.CallLemmas.{told_with_all}
 use Rattle.vod_app.proofs.plans.plan_with.Goals as goal
 
 pub returns-in-Err-clause-planned : goal.returns-in-Err-clause-planned

@@ -1,6 +1,6 @@
 use Rattle.vod_app.specs.Commands.{requested}
 use Rattle.vod_app.proofs.RunLemmas.{got_of, got_with}
-use Rattle.flat_samples.proofs.Comings.{told_with_all, told_with_other}
+use Rattle.vod_source.proofs.CallLemmas.{told_with_all, told_with_other}
 use Rattle.vod_app.proofs.requests.get.Goals as goal
 
 pub returns-in-Err-clause-got : goal.returns-in-Err-clause-got

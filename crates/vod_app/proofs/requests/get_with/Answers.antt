@@ -1,5 +1,5 @@
 use Rattle.vod_app.proofs.RunLemmas.{written_of}
-use Rattle.flat_samples.proofs.Comings.{told_with_all}
+use Rattle.vod_source.proofs.CallLemmas.{told_with_all}
 use Rattle.vod_app.proofs.requests.get_with.Goals as goal
 
 pub returns-in-Err-clause-got : goal.returns-in-Err-clause-got

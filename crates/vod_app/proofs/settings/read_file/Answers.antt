@@ -1,6 +1,6 @@
 use Rattle.std.proofs.Common.{◌≡◌, Some, arith, subst}
 use Rattle.vod_source.specs.Stored.{size_of}
-use Rattle.flat_samples.proofs.Comings.{told_with_all, told_with_both}
+use Rattle.vod_source.proofs.CallLemmas.{told_with_all, told_with_both}
 use Rattle.vod_app.proofs.SettingsReadLemmas.{long_read, short_read, empty_read, lent, not_store_failed}
 use Rattle.vod_types.specs.Results.{Answers}
 use Rattle.vod_types.specs.Settings.{settings_of}

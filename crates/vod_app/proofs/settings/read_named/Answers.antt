@@ -1,6 +1,6 @@
 use Rattle.std.proofs.Common.{Ok, sym, subst, ◌∙◌}
 use Rattle.vod_app.specs.Runs.{AreSettingsRead}
-use Rattle.flat_samples.proofs.Comings.{told_all, told_with_all}
+use Rattle.vod_source.proofs.CallLemmas.{told_all, told_with_all}
 use Rattle.vod_app.proofs.SettingsReadLemmas.{default_read, absent_read, is_default, other_than_default}
 use Rattle.vod_app.proofs.settings.read_named.Goals as goal
 

@@ -7,7 +7,7 @@ use Rattle.vod_types.specs.Results.{◌>>=◌, Answers}
 use Rattle.vod_source.specs.Stored.{Read}
 use Rattle.vod_source.specs.Told.{told_with, GrewByPrefix}
 use Rattle.vod_source.proofs.ToldLemmas.{told_with-nil, told_with-more, GrewByPrefix-same, GrewByPrefix-whole, GrewByPrefix-after, GrewByPrefix-more}
-use Rattle.flat_samples.specs.Calls.{AnswersUnlessFailed, LogsReads, Came}
+use Rattle.vod_source.specs.Calls.{AnswersUnlessFailed, LogsReads, Came}
 
 -- ---- values that may be told
 
