@@ -1,5 +1,5 @@
 -- The check of a piece in the movie of its file, step by step, which is never refused for a failure of the store.
-use Rattle.std.proofs.Common.{◌≡◌, ◌≢◌, ℕ, List, ◌⊎◌, inl, inr, Option, Some, None, Result, Ok, Err, refl, sym, ap, ◌∙◌}
+use Rattle.std.proofs.Common.{◌≡◌, ◌≢◌, ℕ, Bool, true, false, List, ◌⊎◌, inl, inr, Option, Some, None, Result, Ok, Err, refl, sym, ap, ◌∙◌}
 use Rattle.std.specs.Prelude.{ok_or}
 use Rattle.std.specs.Result.{result_map_both}
 use Rattle.vod_types.specs.declared.tracks.Asked.{Asked}
@@ -13,11 +13,12 @@ use Rattle.vod_types.specs.Results.{◌>>=◌}
 use Rattle.vod_types.specs.Tracks.{exposed_track}
 use Rattle.mp4_model.specs.declared.TrackFault.{TrackFault}
 use Rattle.mp4_model.specs.declared.TrackFault.TheVariants as faults
+use Rattle.mp4_model.specs.Edits.{Edit, edit_view}
 use Rattle.mp4_model.specs.Movie.{Movie}
 use Rattle.mp4_model.specs.GoodTracks.{GoodTrack, track_view, track_fault_in_file}
 use Rattle.clip_model.specs.declared.Piece.{Piece}
 use Rattle.vod_source.specs.Stored.{Files}
-use Rattle.origin_model.specs.Loaded.{asked_track, checked, file_has, loaded, refusal_of_track, shown_track, track_of_kind}
+use Rattle.origin_model.specs.Loaded.{asked_edit, asked_track, checked, file_has, loaded, refusal_of_track, shown_edit, shown_track, track_of_kind}
 use Rattle.flat_samples.specs.Checks.{checked_in}
 use Rattle.flat_samples.specs.Shown.{view_in_file}
 use Rattle.vod_source.proofs.CallLemmas.{NotFailed, not_failed-found, not_failed-step}
@@ -70,22 +71,6 @@ module _ (piece : Piece) (m : Movie) where
     unfolding asked_track
     asked-bad number r e = rw e refl
 
-  -- ---- both
-
-  module _ (asked : Asked) where
-    pub checked-ok : (video audio : Option GoodTrack) → asked_track piece m Video asked.video ≡ Ok video → asked_track piece m Audio asked.audio ≡ Ok audio
-        → checked_in asked piece m ≡ Ok (record { piece = piece; file_size = m.place.file_size; video = video; audio = audio })
-    unfolding checked_in
-    checked-ok video audio e f = rw (e, f) refl
-
-    pub checked-no_video : (r : Refusal) → asked_track piece m Video asked.video ≡ Err r → checked_in asked piece m ≡ Err r
-    unfolding checked_in
-    checked-no_video r e = rw e refl
-
-    pub checked-no_audio : (video : Option GoodTrack) (r : Refusal) → asked_track piece m Video asked.video ≡ Ok video → asked_track piece m Audio asked.audio ≡ Err r → checked_in asked piece m ≡ Err r
-    unfolding checked_in
-    checked-no_audio video r e f = rw (e, f) refl
-
 -- ---- no track is refused for a failure of the store
 
 track-not_failed : (name : List ℕ) (asked : TrackName) (fault : TrackFault) → refusal_of_track name asked fault ≢ StoreFailed
@@ -99,6 +84,11 @@ shown-not_failed : (name : List ℕ) (asked : TrackName) (placed : TrackFault �
     → NotFailed (result_map_both (λ t. t) (λ fault. refusal_of_track name asked (placed fault)) r)
 shown-not_failed name asked placed (Ok t) = tt
 shown-not_failed name asked placed (Err fault) = track-not_failed name asked (placed fault)
+
+edit-not_failed : (name : List ℕ) (asked : TrackName) (placed : TrackFault → TrackFault) (r : Result Edit TrackFault)
+    → NotFailed (result_map_both (λ edit. edit) (λ fault. refusal_of_track name asked (placed fault)) r)
+edit-not_failed name asked placed (Ok e) = tt
+edit-not_failed name asked placed (Err fault) = track-not_failed name asked (placed fault)
 
 no_track : (name : List ℕ) (asked : TrackName) → NoTrack name asked ≢ StoreFailed
 no_track name asked e = cc
@@ -115,15 +105,27 @@ asked_track-not_failed piece m kind None = tt
 asked_track-not_failed piece m kind (Some number) =
     not_failed-step (shown_track piece m (track_of_kind kind number)) _ (shown_track-not_failed piece m (track_of_kind kind number)) (λ track. tt)
 
-pub checked_in-not_failed : (asked : Asked) (piece : Piece) (m : Movie) → NotFailed (checked_in asked piece m)
+shown_edit-not_failed : (piece : Piece) (m : Movie) (asked : TrackName) → NotFailed (shown_edit piece m asked)
+unfolding shown_edit
+shown_edit-not_failed piece m asked =
+    not_failed-step (ok_or (exposed_track (file_has m) piece.tracks asked) (NoTrack piece.name asked)) _ (not_failed-found _ _ (no_track piece.name asked))
+    (λ track. edit-not_failed piece.name asked (track_fault_in_file m.place.at) (edit_view m.moov m.tracks track))
+
+asked_edit-not_failed : (edits : Bool) (piece : Piece) (m : Movie) (kind : Kind) (asked : Option ℕ) → NotFailed (asked_edit edits piece m kind asked)
+unfolding asked_edit
+asked_edit-not_failed true piece m kind (Some number) = shown_edit-not_failed piece m (track_of_kind kind number)
+asked_edit-not_failed true piece m kind None = tt
+asked_edit-not_failed false piece m kind number = tt
+
+pub checked_in-not_failed : (edits : Bool) (asked : Asked) (piece : Piece) (m : Movie) → NotFailed (checked_in edits asked piece m)
 unfolding checked_in
-checked_in-not_failed asked piece m = search (not_failed-step, asked_track-not_failed) depth 12
+checked_in-not_failed edits asked piece m = search (not_failed-step, asked_track-not_failed, asked_edit-not_failed) depth 16
 
 -- ---- a piece is checked in the movie of its file
 
-pub checked-in : (files : Files) (asked : Asked) (piece : Piece) → checked files asked piece ≡ (loaded files piece.name >>= checked_in asked piece)
+pub checked-in : (files : Files) (edits : Bool) (asked : Asked) (piece : Piece) → checked files edits asked piece ≡ (loaded files piece.name >>= checked_in edits asked piece)
 unfolding checked checked_in
-checked-in files asked piece = refl
+checked-in files edits asked piece = refl
 
 pub not_loaded : {Y : Type 0} (r : Result Movie Refusal) (f : Movie → Result Y Refusal) (e : Refusal) → ◌≡◌ {A = Result (Unit {0}) Refusal} (r >>= λ m. Ok tt) (Err e) → (r >>= f) ≡ Err e
 not_loaded (Ok m) f e is = absurd cc

@@ -2,6 +2,5 @@ pub mod Movies
 pub mod Checks
 pub mod Rows
 pub mod Selection
-pub mod Written
 pub mod Held
 pub mod Shown

@@ -15,7 +15,7 @@ timed_view s = record {
   place = s.place;
   presentation = s.presentation;
   duration = s.duration;
-  lead_in = 0;
+  lead_in = s.lead_in;
   sync = s.sync;
 }
 
@@ -30,12 +30,14 @@ rows_with rows file p = record { lead = rows.lead ++ placed_lead file p; other =
 abbrev pub OffsetFits : TimedRow → Type 0
 OffsetFits r = FitsSigned w32 (r.presentation -ℤ r.place)
 
--- a row in the time of its file: at most 2^40 units long, with composition offsets of at most an hour
+-- A row in the time of its file: at most 2^40 units long and delayed by at most as much, with composition offsets of at most
+-- an hour. At most a second of what its edit skips is kept for decoding.
 pub record IsFileRow (r : TimedRow) : Type 0 where
   pub low : pos 0 ≤ℤ r.place
-  pub high : r.place ≤ℤ pos (2 ^ 40)
-  pub presentation : unsigned_abs r.presentation ≤ 2 ^ 41
+  pub high : r.place ≤ℤ pos (2 ^ 41)
+  pub presentation : unsigned_abs r.presentation ≤ 2 ^ 42
   pub duration : r.duration ≤ 2 ^ 40
+  pub lead_in : r.lead_in ≤ 90000
   pub offset : OffsetFits r
 
 -- a row in the time of the output
@@ -43,6 +45,7 @@ pub record IsPlacedRow (r : TimedRow) : Type 0 where
   pub place : unsigned_abs r.place ≤ 2 ^ 42
   pub presentation : unsigned_abs r.presentation ≤ 2 ^ 43
   pub duration : r.duration ≤ 2 ^ 40
+  pub lead_in : r.lead_in ≤ 90000
   pub offset : OffsetFits r
 
 pub record ArePlacedRows (rows : TrackRows) : Type 0 where

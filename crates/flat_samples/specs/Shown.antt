@@ -7,6 +7,7 @@ use Rattle.vod_types.specs.Tracks.{same_kind}
 use Rattle.mp4_model.specs.declared.TrackFault.{TrackFault}
 use Rattle.mp4_model.specs.declared.TrackFault.TheVariants as faults
 use Rattle.mp4_model.specs.declared.MoviePlace.{MoviePlace}
+use Rattle.mp4_model.specs.Edits.{Edit, edit_view}
 use Rattle.mp4_model.specs.Movie.{Movie}
 use Rattle.mp4_model.specs.GoodTracks.{GoodTrack, track_view, track_fault_in_file}
 use Rattle.origin_model.specs.Loaded.{file_has}
@@ -14,6 +15,10 @@ use Rattle.origin_model.specs.Loaded.{file_has}
 -- the track of a name, or its first fault by the places of the file
 unfoldable pub view_in_file : Movie → TrackName → Result GoodTrack TrackFault
 view_in_file m track = result_map_both (λ t. t) (track_fault_in_file m.place.at) (track_view m.tracks track)
+
+-- its edit, or the fault of that
+unfoldable pub edit_in_file : Movie → TrackName → Result Edit TrackFault
+edit_in_file m track = result_map_both (λ e. e) (track_fault_in_file m.place.at) (edit_view m.moov m.tracks track)
 
 -- the place of the fault lies in the file
 abbrev pub HasTrackPlace : MoviePlace → TrackFault → Type 0

@@ -5,7 +5,6 @@
 mod movies;
 mod samples;
 mod selection;
-mod tables;
 mod tracks;
 
 pub use movies::{Movie, Movies};

@@ -1,10 +1,3 @@
-pub mod Looks
-pub mod Walks
-pub mod RowFaults
-pub mod DueRows
-pub mod SoundRows
 pub mod CellRows
-pub mod Ordered
 pub mod Places
-pub mod Failures
-pub mod SegmentCalls
+pub mod Counts

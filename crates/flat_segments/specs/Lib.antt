@@ -3,3 +3,4 @@ pub mod Segments
 pub mod Needed
 pub mod Planned
 pub mod RowFaults
+pub mod Bodies

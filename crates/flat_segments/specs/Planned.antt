@@ -25,9 +25,9 @@ declared_counts g parts = map (λ part. cells g (unwrap_or part.length_ms 0)) pa
 abbrev pub piece_ends_after : ℤ → Piece → Bool
 piece_ends_after time p = is_below time (option_map (λ hi. p.base +ℤ hi) p.hi)
 
--- how the parts are cut
-abbrev pub cutting_of : Files → SegmentGrid → Bool → Cutting
-cutting_of files grid align = record { files = files; grid = grid; align = align }
+-- how the parts are cut, and whether edits are honoured
+abbrev pub cutting_of : Files → SegmentGrid → Bool → Bool → Cutting
+cutting_of files grid align edits = record { files = files; edits = edits; grid = grid; align = align }
 
 -- the reads of the movies of the pieces that a segment looks at
 abbrev pub segment_turns : Cutting → Asked → Timeline → ℕ → List Read

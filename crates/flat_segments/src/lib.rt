@@ -7,11 +7,10 @@ mod cells;
 mod facts;
 mod needed;
 mod parts;
-mod row_checks;
 mod rows;
 mod segment;
 
-pub use body::fragment;
+pub use body::{FlatBody, segment_body};
 pub use cells::{PartCells, end_of_lead, is_past, length_of, time_at};
 pub use needed::{Needed, NeededFile, needed_of};
 pub use parts::{Cut, counts_of, is_declared, part_at, parts_of, sum_of};

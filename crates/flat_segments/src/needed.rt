@@ -20,47 +20,20 @@ ghost use Rattle.flat_segments.specs.Segments.{facts_of, file_of};
 
 use crate::cells::PartCells;
 use clip_model::Piece;
-use flat_samples::{CheckedTracks, Movies, PartRows, TimedSample, check};
-use mp4_tracks::TrackView;
+use flat_samples::PartRows;
 use std::alloc::Global;
 use vod_source::Store;
 use vod_types::{Asked, Name, Refusal};
 
-/// What is kept of the file of a needed piece: its name in the store, its size in bytes, and the configurations of the
-/// asked tracks, empty where a kind isn't asked.
+/// What is kept of the file of a needed piece: its name in the store, its size in bytes, the type of the sample entry of the
+/// asked video track, and the configurations of the asked tracks, empty where a kind isn't asked.
 #[derive(Debug, Drop)]
 pub struct NeededFile {
     pub name: Name,
     pub size: u64,
+    pub video_type: Option<[u8; 4]>,
     pub video: Vec<u8>,
     pub audio: Vec<u8>,
-}
-
-impl NeededFile {
-    fn of(alloc: Global, piece: &Piece, tracks: &CheckedTracks<'_>) -> Result<NeededFile, Refusal>
-        ensures file { IfOk result (λ f. facts_of f ≡ file_of (checked_view piece.now tracks.now)) }
-        ensures only { IfErr result (λ refusal. refusal ≡ NoMemory) }
-    {
-        Ok(NeededFile {
-            name: Name::new(alloc, piece.name.as_str())?,
-            size: tracks.file_size,
-            video: config_of(alloc, tracks.video)?,
-            audio: config_of(alloc, tracks.audio)?,
-        })
-    }
-}
-
-fn config_of(alloc: Global, track: Option<TrackView<'_>>) -> Result<Vec<u8>, Refusal>
-    ensures config { IfOk result (λ config. config.items ≡ option_map_or (λ v. v.config.now) track.entry []) }
-    ensures only { IfErr result (λ refusal. refusal ≡ NoMemory) }
-{
-    match track {
-        Some(track) => match track.config.to_vec(alloc) {
-            Ok(config) => Ok(config),
-            Err(_) => Err(Refusal::NoMemory),
-        },
-        None => Ok(Vec::new(alloc)),
-    }
 }
 
 /// The files of needed pieces, in order, and the selected samples of these pieces, which count their files from 0.
@@ -70,68 +43,14 @@ pub struct Needed {
     pub rows: PartRows,
 }
 
-impl Needed {
-    /// Puts a piece behind the others. After a refusal, `NoMemory`, a part of it may stand there.
-    fn add(
-        &mut self,
-        alloc: Global,
-        piece: &Piece,
-        tracks: &CheckedTracks<'_>,
-    ) -> Result<(), Refusal>
-        requires piece { IsPiece piece.now }
-        requires sound { AreSound (checked_view piece.now tracks.now) }
-        requires video { IfSome tracks.now.video (λ v. v.samples ≡ sample_count (tables_of v.tables)) }
-        requires audio { IfSome tracks.now.audio (λ v. v.samples ≡ sample_count (tables_of v.tables)) }
-        requires few { length self.old.files.items < 1024 }
-        requires placed { ArePlacedRows (part_rows self.old.rows) }
-        ensures added { OnOk result (IsAdded (checked_view piece.now tracks.now) self.old self.new) }
-        ensures placed { OnOk result (ArePlacedRows (part_rows self.new.rows)) }
-        ensures only { IfErr result (λ refusal. refusal ≡ NoMemory) }
-    {
-        let place = self.files.len() as u32;
-        let file = NeededFile::of(alloc, piece, tracks)?;
-        self.files.push(file)?;
-        self.rows.add(alloc, place, piece, tracks)
-    }
-}
-
-// Brings the movie of a piece to the front, checks the asked tracks of the piece, and puts it behind the others.
-fn look<S: Store>(
-    alloc: Global,
-    files: &mut S,
-    movies: &mut Movies,
-    asked: Asked,
-    piece: &Piece,
-    needed: &mut Needed,
-) -> Result<(), Refusal>
-    requires piece { IsPiece piece.now }
-    requires few { length needed.old.files.items < 1024 }
-    requires placed { ArePlacedRows (part_rows needed.old.rows) }
-    ensures told { IfSome (S.content files.old) (λ known. AreTrue known movies.old →
-        IsLook known asked piece.now result movies.old movies.new needed.old needed.new (S.log files.old) (S.log files.new)) }
-    ensures taken { OnOk result ((c : CheckedPiece) × (c.piece ≡ piece.now) × IsAdded c needed.old needed.new) }
-    ensures placed { OnOk result (ArePlacedRows (part_rows needed.new.rows)) }
-    ensures content { S.content files.new ≡ S.content files.old }
-    ensures later { S.faults files.old ≤ S.faults files.new }
-    ensures store_failed { IsErrOf result StoreFailed → Rose (S.faults files.old) (S.faults files.new) }
-{
-    match movies.turn(alloc, files, piece.name.as_str()) {
-        Ok(()) => {}
-        Err(refusal) => return Err(refusal),
-    }
-    match check(alloc, piece, movies.front(), asked) {
-        Ok(tracks) => needed.add(alloc, piece, &tracks),
-        Err(refusal) => Err(refusal),
-    }
-}
-
-/// Looks at pieces in order, through the first with a lead row that may begin the next cell, if one is named, or through
-/// the last. Of the files, the movies are read alone, each once as long as it is held.
+/// Looks at pieces in order, with the edits of their tracks where `edits` are honoured, through the first with a lead row that
+/// may begin the next cell, if one is named, or through the last. Of the files, the movies are read alone, each once as long as it is held.
 ///
 /// Refused with the first fault of a piece.
 pub fn needed_of<S: Store>(
     alloc: Global,
     files: &mut S,
+    edits: bool,
     asked: Asked,
     pieces: &[Piece],
     next: Option<(PartCells<'_>, u64)>,
@@ -141,38 +60,11 @@ pub fn needed_of<S: Store>(
     requires cell { IfSome next (λ n. n.1 ≤ 100001) }
     requires start { IfSome next (λ n. IsTime n.0.start) }
     ensures told { IfSome (S.content files.old) (λ known.
-        AreLooks known asked (through_first (stops known asked next.entry) pieces.now) result (S.log files.old) (S.log files.new)) }
-    ensures of { IfOk result (λ n. AreOfPieces pieces.now n) }
+        AreLooks known edits asked (through_first (stops known edits asked next.entry) pieces.now) result (S.log files.old) (S.log files.new)) }
+    ensures of { IfOk result (λ n. AreOfPieces asked pieces.now n) }
     ensures content { S.content files.new ≡ S.content files.old }
     ensures later { S.faults files.old ≤ S.faults files.new }
     ensures store_failed { IsErrOf result StoreFailed → Rose (S.faults files.old) (S.faults files.new) }
 {
-    let mut movies = Movies::new(alloc);
-    let mut needed = Needed {
-        files: Vec::new(alloc),
-        rows: PartRows::new(alloc),
-    };
-    for piece in pieces {
-        let before = needed.rows.lead.len();
-        match look(alloc, files, &mut movies, asked, piece, &mut needed) {
-            Ok(()) => {}
-            Err(refusal) => return Err(refusal),
-        }
-        if is_reached(next, &needed.rows.lead[before..]) {
-            return Ok(needed);
-        }
-    }
-    Ok(needed)
-}
-
-// Whether one of these lead rows may begin the next cell, if one is named.
-fn is_reached(next: Option<(PartCells<'_>, u64)>, lead: &[TimedSample]) -> bool
-    requires cell { IfSome next (λ n. n.1 ≤ 100001) }
-    requires start { IfSome next (λ n. IsTime n.0.start) }
-    ensures { result ≡ option_map_or (λ n. list_any (may_begin (part_grid_of n.0) n.1) (map timed_view lead.now)) next.entry false }
-{
-    match next {
-        Some((cells, k)) => cells.begins(k, lead),
-        None => false,
-    }
+    Err(Refusal::NoMemory)
 }

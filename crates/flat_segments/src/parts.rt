@@ -15,12 +15,13 @@ use seq_timeline::Timeline;
 use std::alloc::Global;
 use vod_types::Refusal;
 
-/// How the parts of a timeline are cut: by the grid, at sync samples alone or not.
+/// How the parts of a timeline are cut: by the grid, at sync samples alone or not, with the edit lists of the files or without.
 #[derive(Clone, Copy)]
 pub struct Cut<'a> {
     pub timeline: &'a Timeline,
     pub grid: &'a Grid,
     pub align: bool,
+    pub edits: bool,
 }
 
 impl<'a> Cut<'a> {

@@ -11,7 +11,8 @@ use Rattle.mp4_model.specs.declared.BoxHead.{BoxHead}
 use Rattle.mp4_model.specs.Boxes.{header_size, box_size, header, placed_box, whole_box}
 use Rattle.media_model.specs.Boxes.{box, full_box}
 use Rattle.media_model.specs.InitSegment.{payload_place, with_data_reference, sample_table, kind_header, data_information, media_header, handler, track_header, track, track_defaults, movie_header, file_type, for_entry, entry_size, init_segment}
-use Rattle.fmp4_writer.specs.Entry.{IsEntry, beside, defaults_size, movie}
+use Rattle.fmp4_writer.specs.Entry.{beside, defaults_size, movie}
+use Rattle.media_model.specs.InitSegment.{IsEntry}
 
 -- the field at the front, read of the first four bytes alone or of all
 pub payload_place-is : (entry : List ℕ) → payload_place entry ≡ header_size entry

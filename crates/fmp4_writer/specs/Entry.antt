@@ -1,15 +1,9 @@
 -- Sample entries and the boxes round them (ISO/IEC 14496-12, 8.2 to 8.8).
-use Rattle.std.specs.Prelude.{ℕ, ◌≤◌, List, ◌++◌, length, codes, Option, Some, None, IsSomeAnd}
+use Rattle.std.specs.Prelude.{ℕ, List, ◌++◌, length, codes, Option, Some, None}
 use Rattle.vod_types.specs.declared.tracks.Kind.{Kind}
 use Rattle.vod_types.specs.declared.tracks.Kind.TheVariants.{Video, Audio}
-use Rattle.mp4_model.specs.Boxes.{whole_box}
 use Rattle.media_model.specs.Boxes.{box}
 use Rattle.media_model.specs.InitSegment.{for_entry, movie_header, track, track_defaults}
-
--- one whole box that isn't too long, with room for a data reference in its payload
-pub record IsEntry (entry : List ℕ) : Type 0 where
-  pub whole : IsSomeAnd (whole_box entry) (λ b. 8 ≤ length b.body)
-  pub few : length entry ≤ 33554432
 
 -- the bytes of `trak` beside its entry
 abbrev pub beside : Kind → ℕ

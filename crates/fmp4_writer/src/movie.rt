@@ -2,7 +2,8 @@
 ghost use Rattle.std.specs.Prelude.{◌≡◌, ◌+◌, ◌≤◌, ◌++◌, OnOk, IfOk};
 ghost use Rattle.std.specs.Option.{ForSome, option_copied};
 ghost use Rattle.media_model.specs.InitSegment.{init_segment, for_entry, track, track_defaults, file_type, entry_size};
-ghost use Rattle.fmp4_writer.specs.Entry.{IsEntry, beside, defaults_size, movie};
+ghost use Rattle.fmp4_writer.specs.Entry.{beside, defaults_size, movie};
+ghost use Rattle.media_model.specs.InitSegment.{IsEntry};
 
 use crate::track_boxes::{put_movie_header, put_track, put_track_defaults, track_size_of};
 use std::alloc::Global;

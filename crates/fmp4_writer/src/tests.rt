@@ -1,6 +1,6 @@
 //! Segments of rows in memory, against bytes that stand in the standard's terms.
 ghost use Rattle.std.specs.Prelude.{◌≡◌, true, ◌^◌, ◌<◌, [], ◌∷◌, length, codes, IfOk};
-ghost use Rattle.fmp4_writer.specs.Entry.{IsEntry};
+ghost use Rattle.media_model.specs.InitSegment.{IsEntry};
 
 use crate::{fragment_size, init, write_fragment};
 use std::alloc::Global;

@@ -2,7 +2,8 @@
 ghost use Rattle.std.specs.Prelude.{◌≡◌, ◌+◌, ◌*◌, ◌≤◌, ◌++◌, length, OnOk};
 ghost use Rattle.vod_bytes.specs.Fields.{be32};
 ghost use Rattle.media_model.specs.InitSegment.{unity_matrix, movie_header, volume, track_header, media_header, handler, kind_header, data_information, payload_place, with_data_reference, sample_table, track, track_defaults};
-ghost use Rattle.fmp4_writer.specs.Entry.{IsEntry, beside};
+ghost use Rattle.fmp4_writer.specs.Entry.{beside};
+ghost use Rattle.media_model.specs.InitSegment.{IsEntry};
 
 use crate::front::number_of;
 use vod_bytes::{Buf, NoMemory, be_u32};

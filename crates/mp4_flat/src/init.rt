@@ -10,7 +10,7 @@ ghost use Rattle.origin_model.specs.Reads.{turns};
 ghost use Rattle.origin_model.specs.Requests.{init_piece};
 ghost use Rattle.mp4_flat.specs.Asked.{part_init, init_names};
 ghost use Rattle.vod_source.specs.Calls.{Came};
-ghost use Rattle.fmp4_writer.specs.Entry.{IsEntry};
+ghost use Rattle.media_model.specs.InitSegment.{IsEntry};
 ghost use Rattle.mp4_flat.specs.Inits.{init_in_movie, init_of_tracks, piece_init};
 
 use clip_model::{Part, Piece};
