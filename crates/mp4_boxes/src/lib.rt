@@ -12,5 +12,3 @@ pub use list::{BoxRef, Boxes};
 pub use mp4_model::BoxHead;
 pub use payload::children;
 
-#[cfg(test)]
-mod tests;

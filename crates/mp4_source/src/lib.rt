@@ -9,5 +9,3 @@ pub use movie::read;
 pub use mp4_model::MoviePlace;
 pub use place::find;
 
-#[cfg(test)]
-mod tests;

@@ -15,5 +15,3 @@ pub use tables::Tables;
 pub use times::{Ctts, Stts};
 pub use validity::valid;
 
-#[cfg(test)]
-mod tests;

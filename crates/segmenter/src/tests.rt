@@ -1,6 +1,6 @@
 //! Cells, boundaries and numbers, worked by hand.
 
-use crate::{Grid, boundary, cells, locate};
+use crate::{Grid, boundary, cells};
 use std::alloc::Global;
 use std::test::Fail;
 use vod_types::read_settings;
@@ -35,30 +35,4 @@ fn first_cells_have_durations_of_their_own(rt: HostRuntime) -> Result<(), Fail> 
         assert_eq!(rt; boundary(&grid, k), ms);
     }
     Ok(())
-}
-
-#[test]
-fn the_mapping_goes_before_the_settings(rt: HostRuntime) -> Result<(), Fail> {
-    let alloc = rt.alloc();
-    let settings = read_settings(alloc, b"{\"segment_ms\":2000}")?;
-    assert_eq!(rt; boundary(&Grid::new(alloc, &settings, None)?, 3), 6000);
-    assert_eq!(rt;
-        boundary(&Grid::new(alloc, &settings, Some(4000))?, 3),
-        12000
-    );
-    Ok(())
-}
-
-#[test]
-fn numbers_run_over_the_parts(rt: HostRuntime) {
-    for (number, place) in [
-        (0, None),
-        (1, Some((0, 0))),
-        (2, Some((0, 1))),
-        (3, Some((2, 0))),
-        (4, Some((2, 1))),
-        (5, None),
-    ] {
-        assert_eq!(rt; locate(&[2, 0, 2], number), place);
-    }
 }

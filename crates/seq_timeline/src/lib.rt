@@ -6,8 +6,6 @@ mod pieces;
 mod places;
 mod sequence;
 mod spans;
-#[cfg(test)]
-mod tests;
 mod timed;
 mod times;
 

@@ -9,5 +9,3 @@ pub use bits::Bits;
 pub use buf::{Buf, NoMemory};
 pub use fields::{be_i32, be_u16, be_u32, be_u64};
 
-#[cfg(test)]
-mod tests;

@@ -5,20 +5,11 @@ ghost use Rattle.vod_source.specs.Stored.{InFile};
 use super::*;
 use std::alloc::{AllocError, Global};
 use std::test::Fail;
-use vod_types::{Name, Refusal};
+use vod_types::Name;
 
 // Bytes that count up from 0 and begin again after 250.
 fn counting(alloc: Global, n: usize) -> Result<Vec<u8>, AllocError> {
     (0..n).map(|i| (i % 251) as u8).collect(alloc)
-}
-
-// Files of these names and bytes.
-fn files(alloc: Global, list: &[(&str, &[u8])]) -> Result<Vec<(Name, Vec<u8>)>, Fail> {
-    let mut files = Vec::new(alloc);
-    for (name, bytes) in list {
-        files.push((Name::new(alloc, name)?, bytes.to_vec(alloc)?))?;
-    }
-    Ok(files)
 }
 
 // Links that give one byte each.
@@ -57,91 +48,6 @@ fn taken<L: Link>(link: &mut L) -> Option<u8> {
         Ok(1) => Some(room[0]),
         _ => None,
     }
-}
-
-#[test]
-fn long_range_is_read_in_pieces(rt: HostRuntime) -> Result<(), Fail> {
-    let alloc = rt.alloc();
-    let movie = counting(alloc, 150_040)?;
-    let inner = MemStore::new(files(alloc, &[("m.mp4", &movie)])?, Vec::new(alloc));
-    let mut store = Logged::new(alloc, inner);
-    assert!(rt; is_within(&mut store, "m.mp4", 40, 150_000));
-    let read = read_range(alloc, &mut store, "m.mp4", 40, 150_000)?;
-    assert!(rt; read.len() == 150_000 && movie.ends_with(&read));
-    let pieces = [(40, 65536), (65576, 65536), (131112, 18928)];
-    assert_eq!(rt; store.entries().len(), pieces.len());
-    for (entry, piece) in store.entries().iter().zip(&pieces) {
-        assert_eq!(rt; (entry.at, entry.n), *piece);
-        assert_eq!(rt; store.name(entry.name), "m.mp4");
-    }
-    assert_eq!(rt; store.refused(), 0);
-    assert!(rt; lends(&mut store.into_inner(), "m.mp4", 1, &[1, 2]));
-    Ok(())
-}
-
-#[test]
-fn stores_lend_and_fail_by_number(rt: HostRuntime) -> Result<(), Fail> {
-    let alloc = rt.alloc();
-    let list = files(alloc, &[("a", &[1, 2, 3]), ("a", &[4]), ("b", &[5, 6])])?;
-    let mut store = MemStore::new(list, vec![in alloc; 4, 5]?);
-    // Of two files with one name the first counts, and the fourth and the fifth call fail.
-    let rows: [(&str, &[u8], bool); 4] = [
-        ("a", &[2, 3], true),
-        ("a", &[2], false),
-        ("b", &[6], false),
-        ("b", &[6], true),
-    ];
-    for (name, want, is_lent) in rows {
-        assert_eq!(rt;
-            lends(&mut store, name, 1, want),
-            is_lent,
-            "{name} {want:?}"
-        );
-    }
-    assert_eq!(rt; store.size("c"), Ok(None));
-    Ok(())
-}
-
-#[test]
-fn sinks_fill_and_fail_by_number(rt: HostRuntime) -> Result<(), Fail> {
-    let alloc = rt.alloc();
-    let mut sink = MemSink::new(alloc, 4, vec![in alloc; 2]?)?;
-    let mut growing = VecSink::new(vec![in alloc; 1, 2]?);
-    // The second call fails, and at the third there is room for two bytes alone.
-    let rows: [(&[u8], bool); 4] = [
-        (&[1, 2], true),
-        (&[3], false),
-        (&[3, 4, 5], false),
-        (&[3, 4], true),
-    ];
-    for (piece, is_put) in rows {
-        assert_eq!(rt; sink.put(piece).is_ok(), is_put, "{piece:?}");
-    }
-    assert_eq!(rt; growing.put(&[3, 4]), Ok(()));
-    assert_eq!(rt; growing.bytes(), sink.written());
-    assert_eq!(rt; growing.into_vec().as_slice(), [1, 2, 3, 4].as_slice());
-    Ok(())
-}
-
-#[test]
-fn links_give_their_pieces(rt: HostRuntime) -> Result<(), Fail> {
-    let alloc = rt.alloc();
-    let first = vec![in alloc; 1, 2, 3]?;
-    let last = vec![in alloc; 4]?;
-    let pieces = vec![in alloc; first, Vec::new(alloc), last]?;
-    let mut link = MemLink::new(alloc, pieces, 1, vec![in alloc; 2]?)?;
-    // The second call fails, and no call crosses the border between two pieces.
-    let rows = [Ok(2), Err(LinkFailed), Ok(1), Ok(1), Ok(0)];
-    for (i, count) in rows.iter().enumerate() {
-        let mut room = [0; 2];
-        assert_eq!(rt; link.take(&mut room), *count, "{i}");
-    }
-    assert!(rt;
-        link.put(&[7]).is_ok() && link.put(&[8]).is_err(),
-        "there is room for one byte"
-    );
-    assert_eq!(rt; link.written(), [7].as_slice());
-    Ok(())
 }
 
 #[test]
