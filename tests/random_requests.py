@@ -4,9 +4,10 @@
 usage: tests/random_requests.py [PROGRAM [SEED [ROUNDS]]]
 
 PROGRAM is the built vodpack, by default crates/vodpack/out/vodpack. In each round some small films with tables of all forms,
-a mapping and settings are drawn, and then many paths of initialization segments and fragments are asked for. Each answer is
-compared byte for byte, and each refusal by its number. The model goes through lists of samples and knows nothing of how the
-program reads tables. The status is 0 where all were equal; else the first case that differs is kept in a folder that is named.
+edit lists, AVC and HEVC, a mapping and settings are drawn, and then many paths of initialization segments, fragments, transport
+streams and media playlists are asked for. Each answer is compared byte for byte, and each refusal by its number. The model goes
+through lists of samples and knows nothing of how the program reads tables. The status is 0 where all were equal; else the first
+case that differs is kept in a folder that is named.
 """
 import json
 import os
@@ -30,22 +31,44 @@ class Refused(Exception):
 # Films
 
 
-def entry_of(kind):
+SETS = {"avc1": [b"\x67\x42\xc0\x1e", b"\x68\xce\x3c\x80"], "hvc1": [b"\x40\x01\x0c", b"\x42\x01\x01", b"\x44\x01\xc1"]}
+SETS["hev1"] = SETS["hvc1"]
+
+
+def entry_of(kind, codec):
     if kind == "a":
         decoder = bytes([4, 17, 0x40, 0x15]) + bytes(11) + bytes([5, 2, 0x11, 0x90])
         esds = full(b"esds", bytes([3, 25, 0, 1, 0]) + decoder + bytes([6, 1, 2]))
         head = bytes(6) + b"\0\3" + bytes(8) + struct.pack(">HH", 2, 16) + bytes(4) + u32(48000 << 16)
         return box(b"mp4a", head, esds)
-    config = b"\x01\x42\xc0\x1e\xff\xe1\x00\x04\x67\x42\xc0\x1e\x01\x00\x04\x68\xce\x3c\x80"
+    sets = [struct.pack(">H", len(it)) + it for it in SETS[codec]]
+    if codec == "avc1":
+        config = box(b"avcC", b"\x01\x42\xc0\x1e\xff\xe1" + sets[0] + b"\x01" + sets[1])
+    else:
+        arrays = b"".join(bytes([0x80 | 32 + i, 0, 1]) + it for i, it in enumerate(sets))
+        config = box(b"hvcC", b"\x01\x01\x60" + bytes(3) + b"\xb0" + bytes(5) + b"\x5d" + bytes(8) + b"\xff\x03" + arrays)
     head = bytes(6) + b"\0\1" + bytes(16) + struct.pack(">HH", 640, 360) + bytes(50)
-    return box(b"avc1", head, box(b"avcC", config))
+    return box(codec.encode(), head, config)
+
+
+def draw_sample(draw, kind, codec):
+    """The bytes of a sample: of video, mostly NAL units behind their lengths."""
+    size = draw.choice([0, 1, 5, 20, draw.randint(0, 60), draw.choice([3, 200, 400])])
+    if kind == "a" or draw.random() < 0.01:
+        return draw.randbytes(size)
+    units = b""
+    for _ in range(draw.choice([0, 1, 1, 1, 2, 3])):
+        kinds = [0x65, 0x41, 0x09, 0x06] if codec == "avc1" else [0x26, 0x02, 0x46, 0x4e]
+        unit = draw.choice([b"", bytes([draw.choice(kinds)]) + draw.randbytes(size)])
+        units += u32(len(unit)) + unit
+    return units
 
 
 class Track:
     """A track with random tables: its samples are (ticks, offset, delta, sync, bytes)."""
 
-    def __init__(self, draw, kind, seconds):
-        self.kind = kind
+    def __init__(self, draw, kind, seconds, codec, movie_scale):
+        self.kind, self.codec = kind, codec if kind == "v" else "mp4a"
         self.scale = draw.choice([1, 7, 24, 25, 1000, 12800, 30000, 44100, 48000, 90000, 1000003])
         usual = draw.choice([max(1, self.scale // draw.choice([1, 2, 5, 25])), 1024, 1001, draw.randint(1, 2 * self.scale)])
         usual = max(usual, self.scale * seconds // 300, 1)
@@ -59,14 +82,39 @@ class Track:
             offset = draw.choice([0, 0, usual, -usual, 2 * usual]) if has_offsets else 0
             number = len(self.samples)
             sync = all_sync or (number % key == 0 and (first_sync or number > 0))
-            size = draw.choice([0, 1, 5, 20, draw.randint(0, 60)])
-            self.samples.append((ticks, offset, delta, sync, draw.randbytes(size)))
+            self.samples.append((ticks, offset, delta, sync, draw_sample(draw, kind, codec)))
             ticks += delta
         self.has_offsets, self.all_sync = has_offsets, all_sync
-        self.entry = entry_of(kind)
+        self.entry = entry_of(kind, codec)
+        self.edits = draw_edits(draw, self.scale, seconds)
+        waits, rest = 0, list(self.edits or [])
+        while rest and rest[0][1] == -1:
+            waits += rest.pop(0)[0]
+        self.delay = waits * UNITS // movie_scale
+        self.skip = rest[0][1] * UNITS // self.scale if rest else 0
+        self.edits_are_bad = any(time < -1 for _, time in self.edits or [])
+
+    def cut(self, honoured):
+        """What counts of the edit list: the delay, what is skipped, and what of that is kept for decoding."""
+        if not honoured:
+            return 0, 0, 0
+        return self.delay, self.skip, min(self.skip, UNITS) if self.kind == "v" else 0
 
     def units(self, ticks):
         return ticks * UNITS // self.scale
+
+
+def draw_edits(draw, scale, seconds):
+    """The entries of an edit list, or none: durations in ticks of the movie, and media times in ticks of the track."""
+    if draw.random() < 0.5:
+        return None
+    entries = [(draw.choice([0, 40, 1000, draw.randint(0, 3000)]), -1) for _ in range(draw.choice([0, 0, 1, 2]))]
+    for _ in range(draw.choice([0, 1, 1, 2])):
+        time = draw.choice([0, 1, scale // 2, scale, 3 * scale, draw.randint(0, scale * max(1, seconds))])
+        entries.append((draw.randint(0, 90000), draw.choice([time, time, -1])))
+    if draw.random() < 0.02:
+        entries.append((0, -2))
+    return entries
 
 
 def runs(draw, values):
@@ -80,7 +128,7 @@ def runs(draw, values):
     return found
 
 
-def film(draw, tracks):
+def film(draw, tracks, movie_scale):
     """The bytes of a film: the chunks of its tracks stand in any order, and the movie box before or behind them."""
     chunks = []
     for number, track in enumerate(tracks):
@@ -101,7 +149,7 @@ def film(draw, tracks):
         for number, samples in order:
             places[(number, samples[0])] = at
             at += sum(len(tracks[number].samples[i][4]) for i in samples) + 3
-        boxes = [full(b"mvhd", bytes(96))]
+        boxes = [full(b"mvhd", u32(0, 0, movie_scale), bytes(84))]
         for number, track in enumerate(tracks):
             boxes.append(track_box(draw_of[number], track, [(places[(n, s[0])], len(s)) for n, s in chunks if n == number], wide))
             if draw_of[number].random() < 0.2:
@@ -154,7 +202,18 @@ def track_box(draw, track, chunks, wide):
     else:
         header = full(b"mdhd", bytes(16), u32(track.scale, 0, 0), b"\x55\xc4\0\0", version=1)
     handler = full(b"hdlr", u32(0), {"v": b"vide", "a": b"soun"}[track.kind], bytes(13))
-    return box(b"trak", full(b"tkhd", bytes(80)), box(b"mdia", header, handler, box(b"minf", box(b"stbl", *tables))))
+    media = box(b"mdia", header, handler, box(b"minf", box(b"stbl", *tables)))
+    return box(b"trak", full(b"tkhd", bytes(80)), *edit_boxes(draw, track.edits), media)
+
+
+def edit_boxes(draw, entries):
+    if entries is None:
+        return []
+    if draw.random() < 0.5:
+        fields = b"".join(struct.pack(">IiI", lasts, time, 0x10000) for lasts, time in entries)
+        return [box(b"edts", full(b"elst", u32(len(entries)), fields))]
+    fields = b"".join(struct.pack(">QqI", lasts, time, draw.choice([0, 0x10000])) for lasts, time in entries)
+    return [box(b"edts", box(b"free"), full(b"elst", u32(len(entries)), fields, version=1))]
 
 
 # The model: pieces and parts
@@ -208,7 +267,7 @@ def timeline(mapping, sequence, window, tracks):
     return parts
 
 
-def checked(films, piece, asked):
+def checked(films, piece, asked, honoured):
     """The asked tracks of a piece, or its first fault."""
     name, exposed, _, _, _ = piece
     if name not in films:
@@ -224,26 +283,43 @@ def checked(films, piece, asked):
             if asked[kind] > len(named[kind]):
                 raise Refused(25)
             found[kind] = named[kind][asked[kind] - 1]
+            if honoured and found[kind].edits_are_bad:
+                raise Refused(24)
     return found
 
 
-def selected(piece, tracks, lead):
-    """The selected rows of a piece by kind: (time, presentation, duration, sync, bytes)."""
+class Row:
+    """A selected sample in the time of the output: `decode` is its decode time in a transport stream."""
+
+    def __init__(self, base, track, cut, sample):
+        ticks, offset, delta, self.sync, self.data = sample
+        delay, skip, lead_in = cut
+        moved = delay - (skip - lead_in)
+        self.time = base + track.units(ticks) + moved
+        self.shown = base + track.units(ticks + offset) + delay - skip
+        self.lasts = track.units(ticks + delta) - track.units(ticks)
+        self.decode = self.time - lead_in
+        self.track = track
+
+
+def rows_of(piece, track, honoured):
+    cut = track.cut(honoured)
+    kept = cut[1] - cut[2]
+    return [Row(piece[2], track, cut, it) for it in track.samples if track.units(it[0]) >= kept]
+
+
+def selected(piece, tracks, lead, honoured):
+    """The selected rows of a piece by kind."""
     _, _, base, lo, hi = piece
-    hi = ENDLESS if hi is None else hi
+    hi = ENDLESS if hi is None else base + hi
     rows = {kind: [] for kind in tracks}
-    track = tracks[lead]
-    inside = [it for it in track.samples if lo <= track.units(it[0]) < hi]
-    while inside and not inside[0][3]:
+    inside = [row for row in rows_of(piece, tracks[lead], honoured) if base + lo <= row.time < hi]
+    while inside and not inside[0].sync:
         inside = inside[1:]
     if not inside:
         return rows
-    first = track.units(inside[0][0])
     for kind, track in tracks.items():
-        chosen = inside if kind == lead else [it for it in track.samples if first <= track.units(it[0]) < hi]
-        for ticks, offset, delta, sync, data in chosen:
-            q = track.units
-            rows[kind].append((base + q(ticks), base + q(ticks + offset), q(ticks + delta) - q(ticks), sync, data))
+        rows[kind] = inside if kind == lead else [row for row in rows_of(piece, track, honoured) if inside[0].time <= row.time < hi]
     return rows
 
 
@@ -269,7 +345,7 @@ def cells(grid, length):
     return max(1, m)
 
 
-# The model: answers
+# The model: fragmented MP4
 
 
 def fragment(number, rows):
@@ -279,18 +355,19 @@ def fragment(number, rows):
     for kind in order:
         own = rows[kind]
         entries = b""
-        for i, (time, shown, lasts, sync, data) in enumerate(own):
-            lasts = own[i + 1][0] - time if i + 1 < len(own) else lasts
-            entries += struct.pack(">IIIi", min(lasts, 0xFFFFFFFF), len(data), 0x02000000 if sync else 0x01010000, shown - time)
+        for i, row in enumerate(own):
+            lasts = own[i + 1].time - row.time if i + 1 < len(own) else row.lasts
+            flags = 0x02000000 if row.sync else 0x01010000
+            entries += struct.pack(">IIIi", min(lasts, 0xFFFFFFFF), len(row.data), flags, row.shown - row.time)
         trafs.append(
             box(
                 b"traf",
                 full(b"tfhd", u32(1 if kind == "v" else 2), flags=0x020000),
-                full(b"tfdt", struct.pack(">Q", own[0][0]), version=1),
+                full(b"tfdt", struct.pack(">Q", own[0].time), version=1),
                 full(b"trun", u32(len(own), place), entries, version=1, flags=0x000F01),
             )
         )
-        data = b"".join(it[4] for it in own)
+        data = b"".join(it.data for it in own)
         media += data
         place += len(data)
     front = box(b"styp", b"msdh", u32(0), b"msdh", b"iso6")
@@ -331,14 +408,201 @@ def init(tracks):
     return box(b"ftyp", b"iso6", u32(0), b"iso6", b"dash") + box(b"moov", *boxes, box(b"mvex", *ends))
 
 
+# The model: transport streams
+
+
+def crc(section):
+    left = 0xFFFFFFFF
+    for byte in section:
+        left ^= byte << 24
+        for _ in range(8):
+            left = (left << 1 ^ 0x04C11DB7 if left & 0x80000000 else left << 1) & 0xFFFFFFFF
+    return u32(left)
+
+
+class Stream:
+    """Packets of 188 bytes with a counter for each PID."""
+
+    def __init__(self):
+        self.bytes, self.counters = b"", {}
+
+    def packet(self, pid, starts, field, payload):
+        counter = self.counters.get(pid, 0)
+        self.counters[pid] = (counter + 1) % 16
+        control = (0x10 if field is None else 0x30) | counter
+        head = bytes([0x47, (0x40 if starts else 0) | pid >> 8, pid & 255, control])
+        self.bytes += head + (b"" if field is None else bytes([len(field)]) + field) + payload
+
+    def section(self, pid, section):
+        section += crc(section)
+        self.packet(pid, True, None, b"\0" + section + b"\xff" * (183 - len(section)))
+
+    def unit(self, pid, field, payload):
+        """A PES packet, cut into packets; `field` is the content of the adaptation field of the first."""
+        starts = True
+        while starts or payload:
+            own = field if starts else None
+            room = 184 - (0 if own is None else 1 + len(own))
+            lacking = room - len(payload)
+            if lacking > 0:
+                if own is not None:
+                    own += b"\xff" * lacking
+                elif lacking == 1:
+                    own = b""
+                else:
+                    own = b"\0" + b"\xff" * (lacking - 2)
+                room = len(payload)
+            self.packet(pid, starts, own, payload[:room])
+            payload, starts = payload[room:], False
+
+
+def time_field(mark, time):
+    time = (time + UNITS) % (1 << 33)
+    return struct.pack(">BHH", mark << 4 | time >> 29 & 14 | 1, (time >> 14 & 0xFFFE) | 1, (time << 1 & 0xFFFE) | 1)
+
+
+def units_of(data):
+    """The NAL units of a sample, or none where a length doesn't fit."""
+    found = []
+    while data:
+        size = int.from_bytes(data[:4], "big")
+        if len(data) < 4 or size > len(data) - 4:
+            return None
+        found.append(data[4 : 4 + size])
+        data = data[4 + size :]
+    return found
+
+
+def access_unit(row):
+    units = units_of(row.data)
+    if units is None:
+        return None
+    is_avc = row.track.codec == "avc1"
+    kept = [it for it in units if it and not (it[0] % 32 == 9 if is_avc else it[0] // 2 % 64 == 35)]
+    before = SETS[row.track.codec] if row.sync else []
+    return b"".join(b"\0\0\0\1" + it for it in [b"\x09\xf0" if is_avc else b"\x46\x01\x50", *before, *kept])
+
+
+def stream(rows, asked, lead, codec):
+    """The body of a transport stream, and whether it is whole."""
+    out = Stream()
+    out.section(0, bytes.fromhex("00b00d0001c100000001f000"))
+    kinds = [kind for kind in ("v", "a") if kind in asked]
+    types = {"v": 0x1B if codec == "avc1" else 0x24, "a": 0x0F}
+    pids = {"v": 0x100, "a": 0x101}
+    entries = b"".join(bytes([types[kind], 0xE1, pids[kind] & 255, 0xF0, 0]) for kind in kinds)
+    section = bytes([2, 0xB0, 13 + len(entries)]) + bytes.fromhex("0001c10000") + bytes([0xE1, pids[lead] & 255, 0xF0, 0]) + entries
+    out.section(0x1000, section)
+    for kind, row in merged(rows):
+        if kind == "v":
+            payload = access_unit(row)
+            if payload is None:
+                return out.bytes, False
+        else:
+            size = len(row.data) + 7
+            payload = bytes([0xFF, 0xF1, 0x4C, 0x80 | size >> 11, size >> 3 & 255, (size & 7) << 5 | 0x1F, 0xFC]) + row.data
+        if row.shown == row.decode:
+            times = b"\x80\x80\x05" + time_field(2, row.shown)
+        else:
+            times = b"\x80\xc0\x0a" + time_field(3, row.shown) + time_field(1, row.decode)
+        size = 0 if kind == "v" else len(times) + len(payload)
+        head = b"\0\0\1" + bytes([0xE0 if kind == "v" else 0xC0]) + struct.pack(">H", size)
+        field = None
+        if kind == lead:
+            base = row.decode % (1 << 33)
+            field = bytes([0x50 if row.sync else 0x10]) + struct.pack(">IH", base >> 1, (base & 1) << 15 | 0x7E00)
+        out.unit(pids[kind], field, head + times + payload)
+    return out.bytes, True
+
+
+def merged(rows):
+    """The rows of both kinds in the order in which a stream has them."""
+    left = {kind: list(rows.get(kind, [])) for kind in ("v", "a")}
+    while left["v"] or left["a"]:
+        is_video = left["v"] and (not left["a"] or left["v"][0].decode <= left["a"][0].decode)
+        kind = "v" if is_video else "a"
+        yield kind, left[kind].pop(0)
+
+
+# The model: playlists
+
+
+def seconds(units):
+    milliseconds = (2 * units + 90) // 180
+    return f"{milliseconds // 1000}.{milliseconds % 1000:03}"
+
+
+def rounded(text):
+    whole, part = text.split(".")
+    return int(whole) + (int(part) >= 500)
+
+
+def playlist(listed, ask, fmp4):
+    """`listed` has number, length and part of each listed segment."""
+    longest = max([1] + [rounded(seconds(length)) for _, length, _ in listed])
+    named = ask["named"]
+    lines = ["#EXTM3U", f"#EXT-X-VERSION:{6 if fmp4 else 3}", f"#EXT-X-TARGETDURATION:{longest}"]
+    lines += ["#EXT-X-MEDIA-SEQUENCE:1", "#EXT-X-PLAYLIST-TYPE:VOD"]
+    before = None
+    for number, length, part in listed:
+        if part != before:
+            if before is not None:
+                lines.append("#EXT-X-DISCONTINUITY")
+            if fmp4:
+                lines.append(f'#EXT-X-MAP:URI="init-c{part}-f{ask["sequence"]}-{named}.mp4"')
+            before = part
+        lines.append(f"#EXTINF:{seconds(length)},")
+        lines.append(f"seg-{number}-f{ask['sequence']}-{named}.{'m4s' if fmp4 else 'ts'}")
+    return ("\n".join(lines + ["#EXT-X-ENDLIST"]) + "\n").encode()
+
+
+# The model: answers
+
+
+class Cells:
+    """The cells of a part over rows of its pieces."""
+
+    def __init__(self, grid, align, part, count, leads):
+        self.grid, self.align, self.count, self.leads = grid, align, count, leads
+        self.begins = part[0]
+
+    def time(self, k):
+        return self.begins + 90 * boundary(self.grid, k)
+
+    def may(self, row, time):
+        return row.time >= time and (row.sync or not self.align)
+
+    def place(self, k):
+        """The index of the first lead row of cell k."""
+        if k == self.count:
+            return len(self.leads)
+        return next((i for i, row in enumerate(self.leads) if self.may(row, self.time(k))), len(self.leads))
+
+    def end(self):
+        return self.leads[-1].time + self.leads[-1].lasts if self.leads else self.begins
+
+    def time_at(self, i):
+        return self.leads[i].time if i < len(self.leads) else self.end()
+
+
+def counts_of(films, grid, parts, asked, lead, honoured):
+    """The numbers of cells of the parts; the one piece of an undeclared length is looked at for it."""
+    if all(length is not None for _, length, _ in parts):
+        return [cells(grid, length) for _, length, _ in parts]
+    begins, _, kept = parts[0]
+    own = selected(kept[0], checked(films, kept[0], asked, honoured), lead, honoured)[lead]
+    end = own[-1].time + own[-1].lasts if own else begins
+    return [cells(grid, max(0, -(-(end - begins) // 90)))]
+
+
 def answer(films, mapping, settings, ask):
-    """The body of a request, or its refusal."""
+    """The body of a request and whether it is whole, or its refusal."""
     grid = {
         "step": mapping.get("segmentDuration", settings.get("segment_ms", 10000)),
         "bootstrap": settings.get("bootstrap", []),
         "policy": settings.get("policy", "last_short"),
     }
-    align = settings.get("align", False)
+    align, honoured = settings.get("align", False), not settings.get("ignore_edits", False)
     asked = ask["asked"]
     lead = "v" if "v" in asked else "a"
     parts = timeline(mapping, ask["sequence"], ask["window"], ask["tracks"])
@@ -348,16 +612,12 @@ def answer(films, mapping, settings, ask):
         kept = parts[ask["part"] - 1][2]
         if not kept:
             raise Refused(46)
-        return init(checked(films, kept[0], asked))
+        return init(checked(films, kept[0], asked, honoured)), True
+    declared = all(length is not None for _, length, _ in parts)
+    if "number" not in ask:
+        return index(films, grid, align, honoured, settings, parts, declared, ask, lead), True
     number = ask["number"]
-    if any(length is None for _, length, _ in parts):
-        begins, _, kept = parts[0]
-        tracks = checked(films, kept[0], asked)
-        own = selected(kept[0], tracks, lead)[lead]
-        end = own[-1][0] + own[-1][2] if own else begins
-        counts = [cells(grid, -(-(end - begins) // 90))]
-    else:
-        counts = [cells(grid, length) for _, length, _ in parts]
+    counts = counts_of(films, grid, parts, asked, lead, honoured)
     if sum(counts) > 100000:
         raise Refused(42)
     if not 1 <= number <= sum(counts):
@@ -367,32 +627,56 @@ def answer(films, mapping, settings, ask):
         k -= counts[part]
         part += 1
     begins, length, kept = parts[part]
-    from_, to = begins + 90 * boundary(grid, k), begins + 90 * boundary(grid, k + 1)
+    cut = Cells(grid, align, parts[part], counts[part], [])
     is_last = k + 1 == counts[part]
-    may = lambda row, time: row[0] >= time and (row[3] or not align)
     rows = {kind: [] for kind in asked}
-    needed = False
+    needed, codecs = False, []
     for piece in kept:
-        needed = needed or piece[4] is None or piece[2] + piece[4] > from_ or length is None
+        needed = needed or piece[4] is None or piece[2] + piece[4] > cut.time(k) or length is None
         if not needed:
             continue
-        own = selected(piece, checked(films, piece, asked), lead)
+        tracks = checked(films, piece, asked, honoured)
+        codecs += [tracks["v"].codec] if "v" in tracks else []
+        own = selected(piece, tracks, lead, honoured)
         for kind in asked:
             rows[kind] += own[kind]
-        if length is not None and not is_last and any(may(row, to) for row in own[lead]):
+        if length is not None and not is_last and any(cut.may(row, cut.time(k + 1)) for row in own[lead]):
             break
-    leads = rows[lead]
-    place = lambda time: next((i for i, row in enumerate(leads) if may(row, time)), len(leads))
-    first = place(from_)
-    last = len(leads) if is_last else place(to)
+    cut.leads = leads = rows[lead]
+    first, last = cut.place(k), cut.place(k + 1)
     if first == last:
         raise Refused(41)
-    until = leads[last][0] if last < len(leads) else ENDLESS
+    until = leads[last].time if last < len(leads) else ENDLESS
     result = {lead: leads[first:last]}
     for kind in asked:
         if kind != lead:
-            result[kind] = [row for row in rows[kind] if leads[first][0] <= row[0] < until]
-    return fragment(number, result)
+            result[kind] = [row for row in rows[kind] if leads[first].time <= row.time < until]
+    if not ask["stream"]:
+        return fragment(number, result), True
+    if len({codec == "avc1" for codec in codecs}) > 1:
+        raise Refused(32)
+    if any(row.shown < row.decode for _, row in merged(result)):
+        raise Refused(30)
+    return stream(result, asked, lead, codecs[0] if codecs else None)
+
+
+def index(films, grid, align, honoured, settings, parts, declared, ask, lead):
+    asked = ask["asked"]
+    if declared and sum(cells(grid, length) for _, length, _ in parts) > 100000:
+        raise Refused(42)
+    found = [[selected(piece, checked(films, piece, asked, honoured), lead, honoured)[lead] for piece in kept] for _, _, kept in parts]
+    counts = counts_of(films, grid, parts, asked, lead, honoured)
+    if sum(counts) > 100000:
+        raise Refused(42)
+    listed, number = [], 1
+    for place, part in enumerate(parts):
+        cut = Cells(grid, align, part, counts[place], sum(found[place], []))
+        for k in range(counts[place]):
+            first, last = cut.place(k), cut.place(k + 1)
+            if first < last:
+                listed.append((number + k, cut.time_at(last) - cut.time_at(first), place + 1))
+        number += counts[place]
+    return playlist(listed, ask, settings.get("hls_fmp4", False))
 
 
 # Random requests
@@ -447,6 +731,10 @@ def draw_settings(draw):
         settings["align"] = draw.random() < 0.8
     if draw.random() < 0.7:
         settings["policy"] = draw.choice(["last_short", "last_long", "last_rounded"])
+    if draw.random() < 0.3:
+        settings["ignore_edits"] = draw.random() < 0.7
+    if draw.random() < 0.4:
+        settings["hls_fmp4"] = draw.random() < 0.8
     return settings
 
 
@@ -481,16 +769,22 @@ def draw_ask(draw, is_mapped, names):
     if draw.random() < 0.05:
         ask["asked"] = draw.choice([{"v": 2}, {"v": 1, "a": 2}])
     named = "-".join(f"{kind}{number}" for kind, number in ask["asked"].items())
-    if draw.random() < 0.15:
+    ask["named"], ask["stream"] = named, False
+    proto, kind = draw.choice(["hls", "dash"]), draw.random()
+    if kind < 0.1:
         ask["part"] = draw.choice([0, 1, 1, 2, 3])
         leaf = f"init-c{ask['part']}-f{ask['sequence']}-{named}.mp4"
+    elif kind < 0.25:
+        proto, leaf = "hls", f"index-f{ask['sequence']}-{named}.m3u8"
     else:
         ask["number"] = draw.choice([0, 1, 1, 2, 2, 3, 4, draw.randint(1, 9), draw.randint(1, 40)])
-        leaf = f"fragment-{ask['number']}-f{ask['sequence']}-{named}.m4s"
+        ask["stream"] = proto == "hls" and draw.random() < 0.8
+        word, ending = ("seg", "ts" if ask["stream"] else "m4s") if proto == "hls" else ("fragment", "m4s")
+        leaf = f"{word}-{ask['number']}-f{ask['sequence']}-{named}.{ending}"
     place = "mapped" if is_mapped else "local"
     if mapping is not None:
         mapping = {"sequences": [{"clips": [{"path": it}]} for it in mapping]}
-    return "/".join(["", place, "dash", target, *words, leaf]), mapping, ask
+    return "/".join(["", place, proto, target, *words, leaf]), mapping, ask
 
 
 def run_round(program, draw, folder, counts):
@@ -498,10 +792,11 @@ def run_round(program, draw, folder, counts):
     films = {}
     for name in names:
         kinds = draw.choice(["v", "a", "va", "va", "va", "av", "vaa", "vava"])
-        tracks = [Track(draw, kind, draw.choice([0, 1, 5, 10, 15, 15, 20])) for kind in kinds]
+        codec, movie_scale = draw.choice(["avc1", "avc1", "hvc1", "hev1"]), draw.choice([1000, 1000, 600, 90000])
+        tracks = [Track(draw, kind, draw.choice([0, 1, 5, 10, 15, 15, 20]), codec, movie_scale) for kind in kinds]
         films[name] = tracks
         with open(f"{folder}/{name}", "wb") as file:
-            file.write(film(draw, tracks))
+            file.write(film(draw, tracks, movie_scale))
     names.append("f9.mp4")
     if draw.random() < 0.7:
         names.pop()
@@ -514,13 +809,14 @@ def run_round(program, draw, folder, counts):
         for _ in range(draw.choice([1, 8])):
             path, local, ask = draw_ask(draw, draw.random() < 0.7, names)
             try:
-                want = (0, answer(films, local or mapped, settings, ask), b"")
+                body, is_whole = answer(films, local or mapped, settings, ask)
+                want = (0, body, b"") if is_whole else (2, body, b"refused 28 ")
                 break
             except Refused as refusal:
                 want = (2, b"", b"refused %d " % refusal.args[0])
         ran = subprocess.run([program, "get", ".", "s.json", path], cwd=folder, capture_output=True)
         line = ran.stderr if want[0] == 0 else ran.stderr[: len(want[2])]
-        word = f"refused {refusal_of(want[2])}" if want[0] else ("init" if "part" in ask else "fragment")
+        word = f"refused {refusal_of(want[2])}" if want[0] else path.split("/")[-1].split("-")[0] + path[path.rindex(".") :]
         counts[word] = counts.get(word, 0) + 1
         if (ran.returncode, ran.stdout, line) != want:
             print(f"differs: get . s.json {path}")

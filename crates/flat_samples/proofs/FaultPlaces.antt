@@ -2,18 +2,20 @@
 use Rattle.std.proofs.Common.{◌≡◌, ℕ, zero, suc, ◌+◌, ◌-◌, ◌<◌, ◌≤◌, ◌^◌, Bool, true, false, cond, eqb, ltb, codes, List, [], ◌∷◌, ◌++◌, length, take, drop, Option, Some, None, Result, Ok, Err, is_some, refl, sym, ap, subst, ◌∙◌, arith, length-drop, length-take}
 use Rattle.std.specs.Prelude.{filter, filter_map, flat_map, option_map, option_and_then, option_to_list, slice_get, ok_or, bytes_eq, ⊤}
 use Rattle.std.specs.Bool.{then_some}
+use Rattle.std.specs.Option.{option_map_or}
 use Rattle.std.specs.List.{cons_option, AllByRecursion}
 use Rattle.std.proofs.lemmas.Bool.{eqb-false}
 use Rattle.vod_types.specs.declared.tracks.Kind.{Kind}
 use Rattle.vod_types.specs.declared.tracks.TrackName.{TrackName}
 use Rattle.vod_types.specs.declared.refusal.TableName.{TableName}
-use Rattle.vod_types.specs.declared.refusal.TableName.TheVariants.{Mdhd, Stsd}
+use Rattle.vod_types.specs.declared.refusal.TableName.TheVariants.{Mdhd, Elst, Stsd}
 use Rattle.vod_types.specs.Tracks.{same_kind}
 use Rattle.vod_types.specs.Results.{◌>>=◌, ◌>>◌, unless}
 use Rattle.mp4_model.specs.declared.BoxHead.{BoxHead}
 use Rattle.mp4_model.specs.declared.TrackFault.{TrackFault}
 use Rattle.mp4_model.specs.declared.TrackFault.TheVariants as faults
 use Rattle.mp4_model.specs.Boxes.{PlacedBox, header, bad_place, bad_place_inside, first_of, boxes_inside, whole_box}
+use Rattle.mp4_model.specs.Edits.{no_edit, edit_in_edts, track_edit, boxes_of_moov, edit_view}
 use Rattle.mp4_model.specs.Entries.{SampleEntry, first_entry, entry_type, sample_entry}
 use Rattle.mp4_model.specs.Movie.{FileFault, BadBox, NoMovie, bad_places_of_mdia, bad_places_of_trak, bad_places_of_moov, traks_of, moov_tracks}
 use Rattle.mp4_model.specs.Tracks.{Track, kind_of_handler, track_of, tracks_of_kind, named_track}
@@ -176,7 +178,7 @@ module _ (moov : List ℕ) where
   -- ---- the places in a track
 
   abbrev TrackLies : Track → Type 0
-  TrackLies t = AllByRecursion Lies t.mdia
+  TrackLies t = AllByRecursion Lies t.mdia × AllByRecursion Lies t.trak
 
   track_lies : (trak : PlacedBox) (t : Track) → Lies trak → track_of trak ≡ Some t → TrackLies t
   unfolding track_of
@@ -186,7 +188,7 @@ module _ (moov : List ℕ) where
       let kind = bind_some (kind_of_handler (take 4 (drop 8 hdlr.0.body))) _ t hdlr.2 in
       let same : ◌≡◌ {A = Track} (record { kind = kind.0; trak = boxes_inside trak; mdia = boxes_inside mdia.0 }) t = cc kind.2 in
       let inner = first_of_lies moov (codes "mdia") (boxes_inside trak) mdia.0 (insides_lie moov trak lies) mdia.1 in
-      subst TrackLies same (insides_lie moov mdia.0 inner)
+      subst TrackLies same (insides_lie moov mdia.0 inner, insides_lie moov trak lies)
 
   tracks_lie : (ts : List Track) → moov_tracks moov ≡ Ok ts → AllByRecursion TrackLies ts
   tracks_lie ts e =
@@ -291,4 +293,38 @@ module _ (moov : List ℕ) where
     where
       go : (o : Option Track) → named_track ts name ≡ o → (ok_or o faults.Absent >>= λ track. good_track track.kind track.mdia) ≡ Err fault → IsViewFault ts name fault
       go None is e = not_there is (let same : faults.Absent ≡ fault = cc e in sym same)
-      go (Some t) is e = faulty t is (track_fault t.kind t.mdia fault (named_lies ts name t (tracks_lie ts made) is) e)
+      go (Some t) is e = faulty t is (track_fault t.kind t.mdia fault (named_lies ts name t (tracks_lie ts made) is).0 e)
+
+  -- ---- the places in an edit list
+
+  edts_fault : (movie : Option ℕ) (timescale : ℕ) (edts : PlacedBox) (d : TrackFault) → Lies edts → edit_in_edts movie timescale edts ≡ Err d → IsFaultIn d
+  unfolding edit_in_edts
+  edts_fault movie timescale edts d lies e =
+      then_step d (option_map (λ (at : ℕ). faults.Box at) (bad_place_inside edts)) _
+      (λ x is. of_option (λ (at : ℕ). faults.Box at) (bad_place_inside edts) x (λ at found. inside_within edts at lies found) is)
+      (λ rest. of_ok_or _ (faults.Table Elst) d tt rest) e
+
+  track_edit_fault : (boxes : List PlacedBox) (timescale : ℕ) (t : Track) (d : TrackFault) → AllByRecursion Lies t.trak → track_edit boxes timescale t ≡ Err d → IsFaultIn d
+  unfolding track_edit
+  track_edit_fault boxes timescale t d lie e = go (first_of (codes "edts") t.trak) refl e
+    where
+      go : (o : Option PlacedBox) → first_of (codes "edts") t.trak ≡ o → option_map_or (edit_in_edts (table_in boxes (codes "mvhd") read_timescale) timescale) o (Ok no_edit) ≡ Err d → IsFaultIn d
+      go None is e = absurd cc
+      go (Some edts) is e = edts_fault (table_in boxes (codes "mvhd") read_timescale) timescale edts d (first_of_lies moov (codes "edts") t.trak edts lie is) e
+
+  -- the edit of a track that isn't there, or one with a fault
+  pub data IsEditFault (fault : TrackFault) : Type 0 where
+    no_track : fault ≡ faults.Absent → IsEditFault fault
+    in_edit : IsFaultIn fault → IsEditFault fault
+
+  pub edit_fault : (ts : List Track) (name : TrackName) (fault : TrackFault) → moov_tracks moov ≡ Ok ts → edit_view moov ts name ≡ Err fault → IsEditFault fault
+  unfolding edit_view
+  edit_fault ts name fault made e = go (named_track ts name) refl e
+    where
+      go : (o : Option Track) → named_track ts name ≡ o →
+          (ok_or o faults.Absent >>= λ track. ok_or (table_in track.mdia (codes "mdhd") read_timescale) (faults.Table Mdhd) >>= λ timescale. track_edit (boxes_of_moov moov) timescale track) ≡ Err fault → IsEditFault fault
+      go None is e = no_track (let same : faults.Absent ≡ fault = cc e in sym same)
+      go (Some t) is e =
+          in_edit (step fault (ok_or (table_in t.mdia (codes "mdhd") read_timescale) (faults.Table Mdhd)) (λ timescale. track_edit (boxes_of_moov moov) timescale t)
+          (λ x none. of_ok_or (table_in t.mdia (codes "mdhd") read_timescale) (faults.Table Mdhd) x tt none)
+          (λ timescale rest. track_edit_fault (boxes_of_moov moov) timescale t fault (named_lies ts name t (tracks_lie ts made) is).1 rest) e)

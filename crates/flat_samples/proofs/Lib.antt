@@ -1,6 +1,12 @@
-pub mod FaultPlaces
 pub mod ListViews
+pub mod ListLemmas
+pub mod SoundLemmas
+pub mod ViewLemmas
+pub mod TimeLemmas
 pub mod CheckLemmas
 pub mod HeldLemmas
 pub mod LoadLemmas
 pub mod TurnLemmas
+pub mod FaultPlaces
+pub mod ShownLemmas
+pub mod Selected

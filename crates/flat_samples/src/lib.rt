@@ -2,9 +2,11 @@
 //! of its file, and the samples of these tracks, written out one by one.
 #![tactic(auto)]
 
+mod cut;
 mod movies;
 mod samples;
 mod selection;
+mod tables;
 mod tracks;
 
 pub use movies::{Movie, Movies};

@@ -1,3 +1,4 @@
 pub mod CellRows
 pub mod Places
 pub mod Counts
+pub mod BodyLemmas

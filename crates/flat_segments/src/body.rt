@@ -1,17 +1,23 @@
 //! The body of a segment.
 
-ghost use Rattle.std.specs.Prelude.{◌≡◌, ◌≤◌, Ok, IfSome, IsErrOf};
+ghost use Rattle.std.specs.Prelude.{◌≡◌, ◌≤◌, Ok, IfSome, IsErrOf, fold, map, max};
 ghost use Rattle.vod_types.specs.declared.refusal.Refusal.TheVariants.{StoreFailed};
+ghost use Rattle.vod_types.specs.declared.segments.Form.TheVariants.{Fmp4, Ts};
 ghost use Rattle.vod_source.specs.Causes.{Rose};
 ghost use Rattle.vod_source.specs.Calls.{Came};
 ghost use Rattle.origin_model.specs.Bodies.{segment_body as segment_body_of};
-ghost use Rattle.flat_segments.specs.Bodies.{body_reads, bytes_with_cut, flat_shown};
-ghost use Rattle.flat_segments.specs.Segments.{flat_plan, AreWritableBy};
+ghost use Rattle.fmp4_writer.specs.Progress as fragments;
+ghost use Rattle.ts_writer.specs.Conditions as streams;
+ghost use Rattle.ts_writer.specs.Progress.{segment_begun};
+ghost use Rattle.flat_segments.specs.Bodies.{body_reads, bytes_with_cut, flat_shown, fragment_reads, fragment_shown, stream_reads, stream_shown};
+ghost use Rattle.flat_segments.specs.Segments.{flat_plan, flat_rows_view, largest_of, AreWritableBy};
 
 use crate::rows::FlatRows;
+use fmp4_writer::write_fragment;
 use std::alloc::Global;
-use vod_source::Store;
-use vod_types::{Asked, Form, Refusal};
+use ts_writer::{TsSegment, write_stream};
+use vod_source::{CopyFault, Store, VecSink};
+use vod_types::{Asked, Form, Refusal, Row};
 
 /// The bytes of a body. `cut` is there where it ends before a bad sample: the file's place among the needed pieces of the
 /// segment, from 0, and the sample's number in its track, from 0.
@@ -39,5 +45,98 @@ pub fn segment_body<S: Store>(
     ensures later { S.faults files.old ≤ S.faults files.new }
     ensures store_failed { IsErrOf result StoreFailed → Rose (S.faults files.old) (S.faults files.new) }
 {
-    Err(Refusal::NoMemory)
+    match form {
+        Form::Ts => stream(alloc, files, asked, rows),
+        Form::Fmp4 => fragment(alloc, files, number, rows),
+    }
+}
+
+// The fragment of a number.
+fn fragment<S: Store>(
+    alloc: Global,
+    files: &mut S,
+    number: u32,
+    rows: FlatRows,
+) -> Result<FlatBody, Refusal>
+    requires writable { fragments.AreWritable (S.content files.old) (flat_rows_view rows) }
+    ensures told { IfSome (S.content files.old) (λ known.
+        Came flat_shown result (Ok (fragment_shown known number rows)) (fragment_reads rows) (S.log files.old) (S.log files.new)) }
+    ensures content { S.content files.new ≡ S.content files.old }
+    ensures later { S.faults files.old ≤ S.faults files.new }
+    ensures store_failed { IsErrOf result StoreFailed → Rose (S.faults files.old) (S.faults files.new) }
+{
+    let mut rows = rows;
+    let mut sink = VecSink::new(Vec::new(alloc));
+    match write_fragment(number, &mut rows, files, &mut sink) {
+        Ok(()) => Ok(FlatBody {
+            bytes: sink.into_vec(),
+            cut: None,
+        }),
+        Err(CopyFault::Store) => Err(Refusal::StoreFailed),
+        Err(CopyFault::Sink) => Err(Refusal::NoMemory),
+    }
+}
+
+// The transport stream of asked tracks.
+fn stream<S: Store>(
+    alloc: Global,
+    files: &mut S,
+    asked: Asked,
+    rows: FlatRows,
+) -> Result<FlatBody, Refusal>
+    requires writable { streams.AreWritable (S.content files.old) (flat_rows_view rows) (segment_begun (largest_of rows) asked rows.hevc) }
+    ensures told { IfSome (S.content files.old) (λ known.
+        Came flat_shown result (Ok (stream_shown known (segment_begun (largest_of rows) asked rows.hevc).stream rows)) (stream_reads known rows.hevc rows) (S.log files.old) (S.log files.new)) }
+    ensures content { S.content files.new ≡ S.content files.old }
+    ensures later { S.faults files.old ≤ S.faults files.new }
+    ensures store_failed { IsErrOf result StoreFailed → Rose (S.faults files.old) (S.faults files.new) }
+{
+    match TsSegment::new(alloc, largest(&rows), asked, rows.hevc) {
+        Ok(segment) => written(alloc, files, segment, rows),
+        Err(_) => Err(Refusal::NoMemory),
+    }
+}
+
+// A transport stream that is to be written.
+fn written<S: Store>(
+    alloc: Global,
+    files: &mut S,
+    segment: TsSegment,
+    rows: FlatRows,
+) -> Result<FlatBody, Refusal>
+    requires begun { segment ≡ segment_begun segment.largest segment.stream.asked segment.stream.hevc }
+    requires writable { streams.AreWritable (S.content files.old) (flat_rows_view rows) segment }
+    ensures told { IfSome (S.content files.old) (λ known.
+        Came flat_shown result (Ok (stream_shown known segment.stream rows)) (stream_reads known segment.stream.hevc rows) (S.log files.old) (S.log files.new)) }
+    ensures content { S.content files.new ≡ S.content files.old }
+    ensures later { S.faults files.old ≤ S.faults files.new }
+    ensures store_failed { IsErrOf result StoreFailed → Rose (S.faults files.old) (S.faults files.new) }
+{
+    let mut rows = rows;
+    let mut sink = VecSink::new(Vec::new(alloc));
+    match write_stream(segment, &mut rows, files, &mut sink) {
+        Ok(cut) => Ok(FlatBody {
+            bytes: sink.into_vec(),
+            cut,
+        }),
+        Err(CopyFault::Store) => Err(Refusal::StoreFailed),
+        Err(CopyFault::Sink) => Err(Refusal::NoMemory),
+    }
+}
+
+// The greatest size of a sample of these rows.
+fn largest(rows: &FlatRows) -> u32
+    ensures { result ≡ largest_of rows.now }
+{
+    largest_from(largest_from(0, &rows.video), &rows.audio)
+}
+
+fn largest_from(least: u32, rows: &[Row]) -> u32
+    ensures { result ≡ fold max least (map (λ row. row.sample.size) rows.now) }
+{
+    let mut largest = least;
+    for row in rows {
+        largest = largest.max(row.sample.size);
+    }
+    largest
 }

@@ -5,6 +5,7 @@
 mod body;
 mod cells;
 mod facts;
+mod lone_iframe;
 mod needed;
 mod parts;
 mod rows;
@@ -12,6 +13,7 @@ mod segment;
 
 pub use body::{FlatBody, segment_body};
 pub use cells::{PartCells, end_of_lead, is_past, length_of, time_at};
+pub use lone_iframe::iframe_row;
 pub use needed::{Needed, NeededFile, needed_of};
 pub use parts::{Cut, counts_of, is_declared, part_at, parts_of, sum_of};
 pub use rows::FlatRows;

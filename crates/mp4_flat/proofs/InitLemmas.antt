@@ -1,5 +1,5 @@
 -- Init segments: the piece of a part, and what is answered and read in each case.
-use Rattle.std.proofs.Common.{◌≡◌, ℕ, zero, suc, ◌+◌, ◌-◌, ◌<◌, List, [], ◌∷◌, drop, length, slice_get, take, Option, Some, None, IfOk, IfErr, Result, Ok, Err, refl, sym, ap, ◌∙◌, append-nil, arith, subst}
+use Rattle.std.proofs.Common.{◌≡◌, ℕ, Bool, zero, suc, ◌+◌, ◌-◌, ◌<◌, List, [], ◌∷◌, drop, length, slice_get, take, Option, Some, None, IfOk, IfErr, Result, Ok, Err, refl, sym, ap, ◌∙◌, append-nil, arith, subst}
 use Rattle.std.specs.Prelude.{option_map}
 use Rattle.std.specs.Option.{option_map_or}
 use Rattle.std.proofs.lemmas.Option.{same_Some}
@@ -22,7 +22,7 @@ use Rattle.origin_model.specs.Loaded.{loaded}
 use Rattle.origin_model.specs.Reads.{turn, turns}
 use Rattle.origin_model.specs.Requests.{first_piece, init_piece}
 use Rattle.flat_samples.specs.declared.tracks.CheckedTracks.{CheckedTracks}
-use Rattle.mp4_flat.specs.Asked.{init_names, part_init}
+use Rattle.mp4_flat.specs.Inits.{init_names, part_init}
 use Rattle.vod_source.specs.Calls.{Came, LogsReads}
 use Rattle.flat_samples.specs.Checks.{checked_in, checked_view}
 use Rattle.mp4_flat.specs.Inits.{init_in_movie, init_of_tracks, piece_init}
@@ -76,19 +76,19 @@ init_body-of : (piece : Piece) (c : CheckedTracks) → init_body (checked_view p
 unfolding init_body
 init_body-of piece c = init_body-shown c.video c.audio
 
-pub written-answers : {X : Type 0} (view : X → List ℕ) (asked : Asked) (piece : Piece) (m : Movie) (c : CheckedTracks) (result : Result X Refusal)
-    → checked_in asked piece m ≡ Ok (checked_view piece c) → IfOk result (λ x. view x ≡ init_of_tracks c) → IfErr result (λ refusal. refusal ≡ NoMemory)
-    → Answers view result (init_in_movie asked piece m)
-written-answers view asked piece m c (Ok x) e bytes only = rw e (ap Ok (init_body-of piece c ∙ sym bytes))
-written-answers view asked piece m c (Err r) e bytes only = λ other. absurd (other only)
+pub written-answers : {X : Type 0} (view : X → List ℕ) (edits : Bool) (asked : Asked) (piece : Piece) (m : Movie) (c : CheckedTracks) (result : Result X Refusal)
+    → checked_in edits asked piece m ≡ Ok (checked_view piece c) → IfOk result (λ x. view x ≡ init_of_tracks c) → IfErr result (λ refusal. refusal ≡ NoMemory)
+    → Answers view result (init_in_movie edits asked piece m)
+written-answers view edits asked piece m c (Ok x) e bytes only = rw e (ap Ok (init_body-of piece c ∙ sym bytes))
+written-answers view edits asked piece m c (Err r) e bytes only = λ other. absurd (other only)
 
 -- ---- the piece
 
-module _ {X : Type 0} (view : X → List ℕ) (files : Files) (asked : Asked) (piece : Piece) (log : Option (List Read)) where
-  piece_init-by : piece_init files asked piece ≡ (loaded files piece.name >>= λ m. init_in_movie asked piece m)
-  piece_init-by = rw (checked-in files asked piece) (chained (loaded files piece.name))
+module _ {X : Type 0} (view : X → List ℕ) (files : Files) (edits : Bool) (asked : Asked) (piece : Piece) (log : Option (List Read)) where
+  piece_init-by : piece_init files edits asked piece ≡ (loaded files piece.name >>= λ m. init_in_movie edits asked piece m)
+  piece_init-by = rw (checked-in files edits asked piece) (chained (loaded files piece.name))
     where
-      chained : (r : Result Movie Refusal) → (r >>= checked_in asked piece >>= λ c. Ok (init_body c)) ≡ (r >>= λ m. init_in_movie asked piece m)
+      chained : (r : Result Movie Refusal) → (r >>= checked_in edits asked piece >>= λ c. Ok (init_body c)) ≡ (r >>= λ m. init_in_movie edits asked piece m)
       chained (Ok m) = refl
       chained (Err e) = refl
 
@@ -102,34 +102,34 @@ module _ {X : Type 0} (view : X → List ℕ) (files : Files) (asked : Asked) (p
 
     -- the movie is there
     pub piece-loaded : (x : Unit {0}) {log_now : Option (List Read)} (h : HeldMovie) (result : Result X Refusal) → (AreTrue files held → IsTurn files name (Ok x) held held_now log log_now)
-        → slice_get held_now 0 ≡ Some h → Answers view result (init_in_movie asked piece h.movie)
-        → Came view result (piece_init files asked piece) (turns files [] (piece.name ∷ [])).reads log log_now
+        → slice_get held_now 0 ≡ Some h → Answers view result (init_in_movie edits asked piece h.movie)
+        → Came view result (piece_init files edits asked piece) (turns files [] (piece.name ∷ [])).reads log log_now
     piece-loaded x {log_now} h result turned front answers =
         let turn_is = turned (subst (AreTrue files) (sym empty) tt) in
         let found = turn_is.front in
         let same : found.0 ≡ h = same_Some found.0 h (sym found.1 ∙ front) in
         let movie : loaded files piece.name ≡ Ok h.movie = ap (loaded files) (sym named) ∙ (found.3 ∙ ap (λ k. Ok k.movie) same) in
-        let due : piece_init files asked piece ≡ init_in_movie asked piece h.movie = piece_init-by ∙ ap (λ r. r >>= λ m. init_in_movie asked piece m) movie in
-        came-read view (piece_init files asked piece) _ log log_now result (subst (Answers view result) (sym due) answers) (turn_is.logged ∙ ap (told_with log) reads_are)
+        let due : piece_init files edits asked piece ≡ init_in_movie edits asked piece h.movie = piece_init-by ∙ ap (λ r. r >>= λ m. init_in_movie edits asked piece m) movie in
+        came-read view (piece_init files edits asked piece) _ log log_now result (subst (Answers view result) (sym due) answers) (turn_is.logged ∙ ap (told_with log) reads_are)
 
     -- or it isn't
     pub piece-refused : (e : Refusal) {log_now : Option (List Read)} → (AreTrue files held → IsTurn files name (Err e) held held_now log log_now)
-        → Came view (Err e) (piece_init files asked piece) (turns files [] (piece.name ∷ [])).reads log log_now
+        → Came view (Err e) (piece_init files edits asked piece) (turns files [] (piece.name ∷ [])).reads log log_now
     piece-refused e {log_now} turned =
         let turn_is = turned (subst (AreTrue files) (sym empty) tt) in
         record {
           answered = λ known_memory known_store.
-              piece_init-by ∙ not_loaded (loaded files piece.name) (λ m. init_in_movie asked piece m) e (ap (λ n. loaded files n >>= λ m. Ok tt) (sym named) ∙ turn_is.answered known_memory known_store);
+              piece_init-by ∙ not_loaded (loaded files piece.name) (λ m. init_in_movie edits asked piece m) e (ap (λ n. loaded files n >>= λ m. Ok tt) (sym named) ∙ turn_is.answered known_memory known_store);
           logged = subst (λ reads. LogsReads {X = X} (Err e) reads log log_now) reads_are turn_is.logged;
         }
 
 -- ---- the part
 
-module _ {X : Type 0} (view : X → List ℕ) (files : Files) (asked : Asked) (t : Timeline) (number : ℕ) (log : Option (List Read)) where
+module _ {X : Type 0} (view : X → List ℕ) (files : Files) (edits : Bool) (asked : Asked) (t : Timeline) (number : ℕ) (log : Option (List Read)) where
   no_turn : (turns files [] []).reads ≡ []
   unfolding turns
   no_turn = refl
 
-  pub part-refused : (e : Refusal) → init_piece t number ≡ Err e → Came view (Err e) (part_init files asked t number) (turns files [] (init_names t number)).reads log log
+  pub part-refused : (e : Refusal) → init_piece t number ≡ Err e → Came view (Err e) (part_init files edits asked t number) (turns files [] (init_names t number)).reads log log
   part-refused e is =
       rw (is, no_turn) (came-unread view (Err e) log (Err e) (λ other. refl))

@@ -1,6 +1,6 @@
 -- The listed rows of a path: what is due, and what is read for it.
-use Rattle.std.proofs.Common.{◌≡◌, ◌≢◌, ℕ, Bool, true, false, List, [], ◌++◌, map, Option, Some, None, Result, Ok, Err, refl, sym, ap, ◌∙◌, subst, append-nil}
-use Rattle.std.specs.Prelude.{codes, ok_or}
+use Rattle.std.proofs.Common.{◌≡◌, ◌≢◌, ℕ, Bool, true, false, List, [], ◌++◌, map, Option, Some, None, Result, Ok, Err, refl, sym, ap, ap₂, ◌∙◌, subst, append-nil}
+use Rattle.std.specs.Prelude.{codes, ok_or, IsErr}
 use Rattle.std.specs.List.{items_where_true}
 use Rattle.std.specs.Result.{result_map_both}
 use Rattle.vod_types.specs.declared.paths.Ask.{Ask}
@@ -25,9 +25,11 @@ use Rattle.origin_model.specs.Plans.{Cutting, pieces_or_none, planned_rows, rows
 use Rattle.origin_model.specs.Reads as reads
 use Rattle.origin_model.specs.Reads.{ask_reads, for_rows, further_names, looks_of, mapping_reads_by, path_reads, sample_reads, turn_names, turn_pieces, turns}
 use Rattle.origin_model.specs.Requests.{Setup, Asking, asking_of, cutting, timeline_asked}
-use Rattle.mp4_flat.specs.declared.listed_row.Listed.{Listed}
+use Rattle.vod_types.specs.declared.segments.Listed.{Listed}
 use Rattle.vod_source.specs.Calls.{AnswersUnlessFailed, LogsReads, Came}
-use Rattle.mp4_flat.specs.Listings.{AreListed, ask_rows, every_path, index_turns, listed_view, rows_turns}
+use Rattle.segment_model.specs.Listing.{listed_view}
+use Rattle.flat_lists.specs.Listings.{rows_turns}
+use Rattle.mp4_flat.specs.Listings.{AreListed, ask_rows, every_path, index_turns}
 use Rattle.flat_segments.specs.Planned.{cutting_of}
 use Rattle.vod_source.proofs.CallLemmas.{logs_then, logs_unmade}
 use Rattle.mp4_flat.proofs.Leaves.{ended}
@@ -35,6 +37,11 @@ use Rattle.mp4_flat.proofs.Leaves.{ended}
 no_turns : (files : Files) → (turns files [] []).reads ≡ []
 unfolding turns
 no_turns files = refl
+
+-- ---- how the parts are cut
+
+pub recut_as : (known : Files) (g h : SegmentGrid) (align other edits honoured : Bool) → g ≡ h → align ≡ other → edits ≡ honoured → cutting_of known g align edits ≡ cutting_of known h other honoured
+recut_as known g h align other edits honoured e f i = ap₂ (λ (g : SegmentGrid) (a : Bool). cutting_of known g a edits) e f ∙ ap (cutting_of known h other) i
 
 -- ---- a sequence
 
@@ -61,10 +68,10 @@ module _ {X : Type 0} (view : X → List ListedSegment) (o : Setup) (a : Asking)
         (λ known_memory known_store. sequence_turned ∙ ap (λ (r : Result Timeline Refusal). (turns o.files [] (map (λ p. p.name) (pieces_or_none (r >>= looks)))).reads) (h known_memory) ∙ no_turns o.files);
   }
 
-  pub sequence_timed : (t : Timeline) (g : SegmentGrid) (align : Bool) (result : Result X Refusal) (log log_now : Option (List Read)) → times ≡ Ok t → cutting_of o.files g align ≡ cutting o a
-      → Came view result (planned_rows (cutting_of o.files g align) asked t) (rows_turns (cutting_of o.files g align) asked t) log log_now
+  pub sequence_timed : (t : Timeline) (g : SegmentGrid) (align edits : Bool) (result : Result X Refusal) (log log_now : Option (List Read)) → times ≡ Ok t → cutting_of o.files g align edits ≡ cutting o a
+      → Came view result (planned_rows (cutting_of o.files g align edits) asked t) (rows_turns (cutting_of o.files g align edits) asked t) log log_now
       → Came view result (listed_segments o a sequence asked) (index_turns o a sequence asked) log log_now
-  sequence_timed t g align result log log_now timed same came =
+  sequence_timed t g align edits result log log_now timed same came =
       let due = sequence_due ∙ ap (λ (r : Result Timeline Refusal). r >>= planned_rows (cutting o a) asked) timed in
       let turned = sequence_turned ∙ ap (λ (r : Result Timeline Refusal). (turns o.files [] (map (λ p. p.name) (pieces_or_none (r >>= looks)))).reads) timed in
       let cut = subst (λ (c : Cutting). Came view result (planned_rows c asked t) (rows_turns c asked t) log log_now) same came in
@@ -80,10 +87,10 @@ module _ {X : Type 0} (view : X → List ListedSegment) (o : Setup) (ask : Ask) 
   mapped = mapping_reads_by o (is_local ask.place) ask.target
 
   abbrev looks_by : Result Asking Refusal → reads.Looks
-  looks_by (Ok a) = record { turns = turn_names o a ask.leaf; further = further_names o a ask.leaf; samples = sample_reads o a ask.leaf }
+  looks_by (Ok a) = record { turns = turn_names o a ask.leaf; further = further_names o a ask.leaf; samples = reads.ranged_reads o a None ask.leaf }
   looks_by (Err e) = reads.no_looks
 
-  looks_are : (r : Result Asking Refusal) → asking_of o ask ≡ r → looks_of o ask ≡ looks_by r
+  looks_are : (r : Result Asking Refusal) → asking_of o ask ≡ r → looks_of o None ask ≡ looks_by r
   unfolding looks_of
   looks_are (Ok a) e = rw e refl
   looks_are (Err d) e = rw e refl
@@ -91,12 +98,12 @@ module _ {X : Type 0} (view : X → List ListedSegment) (o : Setup) (ask : Ask) 
   abbrev later_reads : reads.Looks → List Read
   later_reads l = (turns o.files [] (reads.names_taken l [])).reads
 
-  all_reads : ask_reads o [] false [] ask ≡ mapped ++ later_reads (looks_of o ask)
+  all_reads : ask_reads o [] false [] None ask ≡ mapped ++ later_reads (looks_of o None ask)
   unfolding ask_reads
-  all_reads = append-nil (mapped ++ later_reads (looks_of o ask))
+  all_reads = append-nil (mapped ++ later_reads (looks_of o None ask))
 
   index_later : (a : Asking) (l : Leaf) → l ≡ Index sequence asked
-      → later_reads (record { turns = turn_names o a l; further = further_names o a l; samples = sample_reads o a l }) ≡ index_turns o a sequence asked
+      → later_reads (record { turns = turn_names o a l; further = further_names o a l; samples = reads.ranged_reads o a None l }) ≡ index_turns o a sequence asked
   unfolding further_names
   index_later a l e =
       ap (λ (l : Leaf). (turns o.files [] (turn_names o a l ++ items_where_true [] (further_names o a l))).reads) e
@@ -104,15 +111,15 @@ module _ {X : Type 0} (view : X → List ListedSegment) (o : Setup) (ask : Ask) 
 
   -- what is asked was refused
   pub ask_refused : {Y : Type 0} (seen : Y → Asking) (e : Refusal) (log log_now : Option (List Read)) → Came {X = Y} seen (Err e) (asking_of o ask) mapped log log_now
-      → Came view (Err e) (ask_rows o ask sequence asked) (ask_reads o [] false [] ask) log log_now
+      → Came view (Err e) (ask_rows o ask sequence asked) (ask_reads o [] false [] None ask) log log_now
   ask_refused seen e log log_now came =
-      ended view e (ask_rows o ask sequence asked) mapped (later_reads (looks_of o ask)) (ask_reads o [] false [] ask) log log_now
+      ended view e (ask_rows o ask sequence asked) mapped (later_reads (looks_of o None ask)) (ask_reads o [] false [] None ask) log log_now
       (λ known_memory known_store. ap (λ (r : Result Asking Refusal). r >>= λ a. listed_segments o a sequence asked) (came.answered known_memory known_store))
       came.logged all_reads (λ known_memory known_store. ap later_reads (looks_are (Err e) (came.answered known_memory known_store)) ∙ no_turns o.files)
 
   pub ask_answered : (a : Asking) (result : Result X Refusal) (log log_asked log_now : Option (List Read)) → asking_of o ask ≡ Ok a → log_asked ≡ told_with log mapped
       → Came view result (listed_segments o a sequence asked) (index_turns o a sequence asked) log_asked log_now
-      → Came view result (ask_rows o ask sequence asked) (ask_reads o [] false [] ask) log log_now
+      → Came view result (ask_rows o ask sequence asked) (ask_reads o [] false [] None ask) log log_now
   ask_answered a result log log_asked log_now is made came =
       let all = all_reads ∙ ap (λ (l : reads.Looks). mapped ++ later_reads l) (looks_are (Ok a) is) ∙ ap (λ (later : List Read). mapped ++ later) (index_later a ask.leaf leaf) in
       record {
@@ -151,7 +158,7 @@ module _ {X : Type 0} (items : X → List Listed) (o : Setup) (path : List ℕ) 
       rw (e, leaf) refl
 
   abbrev reads_due : List Read
-  reads_due = path_reads (for_rows every_path) o [] false [] path
+  reads_due = path_reads (for_rows every_path) o [] false [] path None
 
   -- of a call that came to what is due
   listed_by : (result : Result X Refusal) (log log_now : Option (List Read)) → Came view result (path_rows every_path o path) reads_due log log_now → AreListed o path (seen result) log log_now
@@ -186,12 +193,12 @@ module _ {X : Type 0} (items : X → List Listed) (o : Setup) (path : List ℕ) 
       let none = readable_other ask is other in
       unread refusals.BadPath log (λ known_memory. rows_other ask is other) (λ known_memory. reads_none none.0 none.1)
 
-  reads_index : (ask : Ask) → readable (for_rows every_path) path ≡ Ok ask → reads_due ≡ ask_reads o [] false [] ask
+  reads_index : (ask : Ask) → readable (for_rows every_path) path ≡ Ok ask → reads_due ≡ ask_reads o [] false [] None ask
   unfolding path_reads
   reads_index ask is = rw is refl
 
   pub path_answered : (ask : Ask) (sequence : ℕ) (asked : Asked) (result : Result X Refusal) (log log_now : Option (List Read)) → ok_or (ask_of path) refusals.BadPath ≡ Ok ask → ask.leaf ≡ Index sequence asked
-      → Came view result (ask_rows o ask sequence asked) (ask_reads o [] false [] ask) log log_now → AreListed o path (seen result) log log_now
+      → Came view result (ask_rows o ask sequence asked) (ask_reads o [] false [] None ask) log log_now → AreListed o path (seen result) log log_now
   path_answered ask sequence asked result log log_now read leaf came =
       let is = ok_or_ok (ask_of path) refusals.BadPath ask read in
       let all = reads_index ask (readable_index ask is (ap is_index leaf)) in
@@ -199,3 +206,16 @@ module _ {X : Type 0} (items : X → List Listed) (o : Setup) (path : List ℕ) 
         answered = subst (AnswersUnlessFailed view result) (sym (rows_index ask sequence asked is leaf)) came.answered;
         logged = subst (λ (reads : List Read). LogsReads result reads log log_now) (sym all) came.logged;
       })
+
+  -- a path of a media playlist is read
+  readable_rows : (ask : Ask) → ask_of path ≡ Some ask → is_index ask.leaf ≡ true → readable_as is_index every_path path ≡ Ok ask
+  unfolding readable_as
+  readable_rows ask e b = rw (e, b) refl
+
+  pub index_is_readable : (ask : Ask) (sequence : ℕ) (asked : Asked) → ok_or (ask_of path) refusals.BadPath ≡ Ok ask → ask.leaf ≡ Index sequence asked → IsErr (readable_as is_index every_path path) → ⊥
+  index_is_readable ask sequence asked read leaf err =
+      by_readable (readable_as is_index every_path path) (readable_rows ask (ok_or_ok (ask_of path) refusals.BadPath ask read) (ap is_index leaf)) err
+    where
+      by_readable : (r : Result Ask Refusal) → r ≡ Ok ask → IsErr r → ⊥
+      by_readable (Ok found) e err = absurd cc
+      by_readable (Err d) e err = absurd cc

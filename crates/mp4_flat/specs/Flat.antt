@@ -1,21 +1,17 @@
 -- What the plain way answers; this project's own.
-use Rattle.std.specs.Prelude.{ℕ, Bool, true, List, [], ◌++◌, Option, Some, None, Result}
+use Rattle.std.specs.Prelude.{ℕ, Bool, true, List, [], ◌++◌, Option, None, Result}
 use Rattle.std.specs.Result.{result_map_both}
 use Rattle.vod_types.specs.declared.paths.Ask.{Ask}
 use Rattle.vod_types.specs.declared.refusal.Refusal.{Refusal}
-use Rattle.list_model.specs.Reply.{End, whole, bad_nal, Answer, Body}
+use Rattle.list_model.specs.Reply.{Answer, Body}
 use Rattle.vod_source.specs.Stored.{Read}
 use Rattle.vod_types.specs.declared.paths.Leaf.{Leaf}
 use Rattle.origin_model.specs.Answers.{answer, ask_answer, leaf_answer}
 use Rattle.origin_model.specs.Reads.{AreReads, ask_reads, turns, turn_names, sample_reads}
 use Rattle.origin_model.specs.Requests.{Setup, Asking}
-use Rattle.mp4_flat.specs.declared.requests.FlatBody.{FlatBody}
+use Rattle.flat_segments.specs.Bodies.{cut_of, flat_shown}
+use Rattle.flat_segments.specs.declared.body.FlatBody.{FlatBody}
 use Rattle.vod_source.specs.Calls.{AnswersUnlessFailed, LogsReads, Came}
-
--- the file and the number of the bad sample before which a body ends
-abbrev pub cut_of : End → Option (ℕ × ℕ)
-cut_of whole = None
-cut_of (bad_nal file sample) = Some (file, sample)
 
 -- the bytes of an answer and where they end
 abbrev pub bytes_and_cut : Body → List ℕ × Option (ℕ × ℕ)
@@ -24,19 +20,16 @@ bytes_and_cut body = (body.bytes, cut_of body.end)
 abbrev pub flat_seen : Answer → Result (List ℕ × Option (ℕ × ℕ)) Refusal
 flat_seen due = result_map_both bytes_and_cut (λ r. r) due
 
-abbrev pub flat_shown : FlatBody → List ℕ × Option (ℕ × ℕ)
-flat_shown body = (body.bytes.items, body.cut)
-
 -- the bytes and the cut are those of the answer of the path, and these reads were made for it
 pub record IsFlatAnswer (built : Ask → Bool) (o : Setup) (path : List ℕ) (result : Result FlatBody Refusal) (log log_now : Option (List Read)) : Type 0 where
-  pub answered : AnswersUnlessFailed flat_shown result (flat_seen (answer built o path))
+  pub answered : AnswersUnlessFailed flat_shown result (flat_seen (answer built o path None))
   pub reads : List Read
-  pub reads_are : AreReads built o [] true path reads
+  pub reads_are : AreReads built o [] true path None reads
   pub logged : LogsReads result reads log log_now
 
 -- the answer of a request, and its reads
 abbrev pub IsAskAnswer : Setup → Ask → Result FlatBody Refusal → Option (List Read) → Option (List Read) → Type 0
-IsAskAnswer o ask result log log_now = Came flat_shown result (flat_seen (ask_answer o ask)) (ask_reads o [] true [] ask) log log_now
+IsAskAnswer o ask result log log_now = Came flat_shown result (flat_seen (ask_answer o None ask)) (ask_reads o [] true [] None ask) log log_now
 
 -- the answer of a leaf, and its reads after those for what is asked
 abbrev pub leaf_reads : Setup → Asking → Leaf → List Read

@@ -1,5 +1,5 @@
--- The init segment of a piece; this project's own.
-use Rattle.std.specs.Prelude.{ℕ, List, option_map, Result, Ok}
+-- Init segments; this project's own.
+use Rattle.std.specs.Prelude.{ℕ, Bool, List, [], ◌∷◌, map, option_map, Result, Ok}
 use Rattle.std.specs.Option.{option_map_or}
 use Rattle.vod_types.specs.declared.refusal.Refusal.{Refusal}
 use Rattle.vod_types.specs.declared.tracks.Asked.{Asked}
@@ -9,20 +9,31 @@ use Rattle.media_model.specs.InitSegment.{init_segment}
 use Rattle.clip_model.specs.declared.Piece.{Piece}
 use Rattle.vod_source.specs.Stored.{Files}
 use Rattle.origin_model.specs.Bodies.{init_body}
+use Rattle.clip_model.specs.Timeline.{Timeline}
 use Rattle.origin_model.specs.Loaded.{checked}
+use Rattle.origin_model.specs.Plans.{pieces_or_none}
+use Rattle.origin_model.specs.Requests.{init_piece}
 use Rattle.flat_samples.specs.declared.tracks.CheckedTracks.{CheckedTracks}
 use Rattle.flat_samples.specs.Checks.{checked_in}
 
--- the init segment of the asked tracks of a piece, or its first refusal
-abbrev pub piece_init : Files → Asked → Piece → Result (List ℕ) Refusal
-piece_init files asked piece = checked files asked piece >>= λ c. Ok (init_body c)
+-- the init segment of the asked tracks of a piece, whose edits are checked where they are honoured, or its first refusal
+abbrev pub piece_init : Files → Bool → Asked → Piece → Result (List ℕ) Refusal
+piece_init files edits asked piece = checked files edits asked piece >>= λ c. Ok (init_body c)
 
 -- the same in the movie of its file
-abbrev pub init_in_movie : Asked → Piece → Movie → Result (List ℕ) Refusal
-init_in_movie asked piece m = checked_in asked piece m >>= λ c. Ok (init_body c)
+abbrev pub init_in_movie : Bool → Asked → Piece → Movie → Result (List ℕ) Refusal
+init_in_movie edits asked piece m = checked_in edits asked piece m >>= λ c. Ok (init_body c)
 
 -- that of checked tracks
 abbrev pub init_of_tracks : CheckedTracks → List ℕ
 init_of_tracks c =
     init_segment (option_map (λ v. v.entry.now) c.video) (option_map_or (λ v. v.width) c.video 0) (option_map_or (λ v. v.height) c.video 0)
     (option_map (λ v. v.entry.now) c.audio)
+
+-- the init segment of a part, whose edits are checked where they are honoured, or its first refusal
+abbrev pub part_init : Files → Bool → Asked → Timeline → ℕ → Result (List ℕ) Refusal
+part_init files edits asked t part = init_piece t part >>= λ piece. checked files edits asked piece >>= λ c. Ok (init_body c)
+
+-- the names of the files that are looked at for it
+abbrev pub init_names : Timeline → ℕ → List (List ℕ)
+init_names t part = map (λ piece. piece.name) (pieces_or_none (init_piece t part >>= λ piece. Ok (piece ∷ [])))

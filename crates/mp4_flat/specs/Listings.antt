@@ -1,40 +1,31 @@
 -- The listed rows of a media playlist's path; this project's own.
-use Rattle.std.specs.Prelude.{ℕ, Bool, true, false, List, [], map, Option, Result}
+use Rattle.std.specs.Prelude.{ℕ, Bool, true, false, List, [], map, Option, None, Result}
 use Rattle.vod_types.specs.declared.paths.Ask.{Ask}
 use Rattle.vod_types.specs.declared.tracks.Asked.{Asked}
-use Rattle.clip_model.specs.Timeline.{Timeline}
 use Rattle.vod_types.specs.declared.paths.Leaf.TheVariants.{Index}
 use Rattle.vod_types.specs.declared.refusal.Refusal.{Refusal}
 use Rattle.vod_types.specs.Results.{◌>>=◌}
-use Rattle.segment_model.specs.Listing.{ListedSegment}
+use Rattle.vod_types.specs.declared.segments.Listed.{Listed}
+use Rattle.segment_model.specs.Listing.{ListedSegment, listed_view}
 use Rattle.vod_source.specs.Stored.{Read}
 use Rattle.origin_model.specs.Answers.{path_rows}
-use Rattle.origin_model.specs.Plans.{Cutting, rows_looks}
 use Rattle.origin_model.specs.Lists.{listed_segments}
 use Rattle.origin_model.specs.Reads.{AreReads, for_rows, turn_names, turns}
 use Rattle.origin_model.specs.Requests.{Setup, Asking, asking_of}
-use Rattle.mp4_flat.specs.declared.listed_row.Listed.{Listed}
 use Rattle.vod_source.specs.Calls.{AnswersUnlessFailed, LogsReads}
 
 -- the rows of every media playlist are listed, whether it is answered yet or not
 abbrev pub every_path : Ask → Bool
 every_path ask = true
 
-abbrev pub listed_view : Listed → ListedSegment
-listed_view l = (l.row, l.video, l.audio)
-
 -- the listed rows of a path, or the refusal of its playlist, and these reads were made for them
 pub record AreListed (o : Setup) (path : List ℕ) (result : Result (List Listed) Refusal) (log log_now : Option (List Read)) : Type 0 where
   pub answered : AnswersUnlessFailed (map listed_view) result (path_rows every_path o path)
   pub reads : List Read
-  pub reads_are : AreReads (for_rows every_path) o [] false path reads
+  pub reads_are : AreReads (for_rows every_path) o [] false path None reads
   pub logged : LogsReads result reads log log_now
 
--- the reads of the movies of the pieces of a sequence that are looked at
-abbrev pub rows_turns : Cutting → Asked → Timeline → List Read
-rows_turns c asked t = (turns c.files [] (map (λ piece. piece.name) (rows_looks c asked t))).reads
-
--- the same for a media playlist of what a request is about
+-- the reads of the movies for a media playlist of what a request is about
 abbrev pub index_turns : Setup → Asking → ℕ → Asked → List Read
 index_turns o a sequence asked = (turns o.files [] (turn_names o a (Index sequence asked))).reads
 

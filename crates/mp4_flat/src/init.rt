@@ -8,7 +8,7 @@ ghost use Rattle.vod_types.specs.Results.{Answers};
 ghost use Rattle.vod_source.specs.Causes.{Rose};
 ghost use Rattle.origin_model.specs.Reads.{turns};
 ghost use Rattle.origin_model.specs.Requests.{init_piece};
-ghost use Rattle.mp4_flat.specs.Asked.{part_init, init_names};
+ghost use Rattle.mp4_flat.specs.Inits.{part_init, init_names};
 ghost use Rattle.vod_source.specs.Calls.{Came};
 ghost use Rattle.media_model.specs.InitSegment.{IsEntry};
 ghost use Rattle.mp4_flat.specs.Inits.{init_in_movie, init_of_tracks, piece_init};
@@ -22,7 +22,8 @@ use std::alloc::Global;
 use vod_source::Store;
 use vod_types::{Asked, Refusal};
 
-/// The initialization segment of a part by its number from 1, of the asked tracks of its first piece.
+/// The initialization segment of a part by its number from 1, of the asked tracks of its first piece, whose edit lists are
+/// checked where `edits` are honoured.
 ///
 /// Refused with `NoPart`, `EmptyPart`, or the first fault of that piece.
 pub(crate) fn init_of_part<S: Store>(
@@ -30,17 +31,18 @@ pub(crate) fn init_of_part<S: Store>(
     files: &mut S,
     timeline: &Timeline,
     part: u32,
+    edits: bool,
     asked: Asked,
 ) -> Result<Vec<u8>, Refusal>
     ensures told { IfSome (S.content files.old) (λ known.
-        Came (λ bytes. bytes.items) result (part_init known asked timeline.now part)
+        Came (λ bytes. bytes.items) result (part_init known edits asked timeline.now part)
         (turns known [] (init_names timeline.now part)).reads (S.log files.old) (S.log files.new)) }
     ensures content { S.content files.new ≡ S.content files.old }
     ensures later { S.faults files.old ≤ S.faults files.new }
     ensures store_failed { IsErrOf result StoreFailed → Rose (S.faults files.old) (S.faults files.new) }
 {
     match first_piece(timeline, part) {
-        Ok(piece) => init_of_piece(alloc, files, piece, asked),
+        Ok(piece) => init_of_piece(alloc, files, piece, edits, asked),
         Err(refusal) => Err(refusal),
     }
 }
@@ -77,10 +79,11 @@ fn init_of_piece<S: Store>(
     alloc: Global,
     files: &mut S,
     piece: &Piece,
+    edits: bool,
     asked: Asked,
 ) -> Result<Vec<u8>, Refusal>
     ensures told { IfSome (S.content files.old) (λ known.
-        Came (λ bytes. bytes.items) result (piece_init known asked piece.now)
+        Came (λ bytes. bytes.items) result (piece_init known edits asked piece.now)
         (turns known [] (piece.now.name ∷ [])).reads (S.log files.old) (S.log files.new)) }
     ensures content { S.content files.new ≡ S.content files.old }
     ensures later { S.faults files.old ≤ S.faults files.new }
@@ -88,17 +91,23 @@ fn init_of_piece<S: Store>(
 {
     let mut movies = Movies::new(alloc);
     match movies.turn(alloc, files, piece.name.as_str()) {
-        Ok(()) => init_in(alloc, piece, movies.front(), asked),
+        Ok(()) => init_in(alloc, piece, movies.front(), edits, asked),
         Err(refusal) => Err(refusal),
     }
 }
 
 // The initialization segment of the asked tracks of a piece in the movie of its file.
-fn init_in(alloc: Global, piece: &Piece, movie: &Movie, asked: Asked) -> Result<Vec<u8>, Refusal>
-    ensures answers { Answers (λ bytes. bytes.items) result (init_in_movie asked piece.now movie.now.movie) }
+fn init_in(
+    alloc: Global,
+    piece: &Piece,
+    movie: &Movie,
+    edits: bool,
+    asked: Asked,
+) -> Result<Vec<u8>, Refusal>
+    ensures answers { Answers (λ bytes. bytes.items) result (init_in_movie edits asked piece.now movie.now.movie) }
     ensures store { IsErrOf result StoreFailed → ⊥ }
 {
-    match check(alloc, piece, movie, asked) {
+    match check(alloc, piece, movie, edits, asked) {
         Ok(tracks) => written(alloc, &tracks),
         Err(refusal) => Err(refusal),
     }

@@ -2,15 +2,12 @@
 //! written. It is the definition's plain program, short and slow; what it reads of the files is what the definition allows.
 #![tactic(auto)]
 
-mod asking;
 mod init;
-mod listed_part;
-mod listed_parts;
-mod listed_row;
-mod listed_timeline;
 mod listing;
+mod playlist;
 mod requests;
 
-pub use listed_row::Listed;
+pub use flat_segments::FlatBody;
 pub use listing::listed;
-pub use requests::{FlatBody, answer};
+pub use requests::answer;
+pub use vod_types::Listed;

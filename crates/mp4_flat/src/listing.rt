@@ -1,26 +1,27 @@
 //! The listed segments of a media playlist.
 
-ghost use Rattle.std.specs.Prelude.{◌≡◌, ◌≤◌, false, [], length, map, IfSome, IsErrOf, MatchOption};
+ghost use Rattle.std.specs.Prelude.{◌≡◌, ◌≤◌, false, [], None, length, map, All, IfOk, IfSome, IsErr, IsErrOf, MatchOption};
 ghost use Rattle.std.specs.Int.{IsInRange};
 ghost use Rattle.std.specs.Result.{result_map_both};
 ghost use Rattle.vod_types.specs.declared.paths.Leaf.TheVariants.{Index};
 ghost use Rattle.vod_types.specs.declared.refusal.Refusal.TheVariants.{StoreFailed};
 ghost use Rattle.vod_source.specs.Causes.{Rose};
-ghost use Rattle.origin_model.specs.Answers.{is_index};
+ghost use Rattle.origin_model.specs.Answers.{is_index, readable_as};
 ghost use Rattle.origin_model.specs.Lists.{listed_segments};
 ghost use Rattle.origin_model.specs.Reads.{ask_reads};
 ghost use Rattle.origin_model.specs.Requests.{target_names};
-ghost use Rattle.mp4_flat.specs.Asked.{asking_view, setup_of};
+ghost use Rattle.flat_lists.specs.Asked.{asking_view, setup_of};
 ghost use Rattle.vod_source.specs.Calls.{Came};
-ghost use Rattle.mp4_flat.specs.Listings.{AreListed, ask_rows as ask_rows_of, index_turns, listed_view};
+ghost use Rattle.segment_model.specs.Listing.{listed_view};
+ghost use Rattle.flat_lists.specs.Listings.{HasPart};
+ghost use Rattle.mp4_flat.specs.Listings.{AreListed, ask_rows as ask_rows_of, every_path, index_turns};
 
-use crate::asking::{Asking, asking_of};
-use crate::listed_row::Listed;
-use crate::listed_timeline::timeline_rows;
+use flat_lists::{Asking, asking_of};
+use flat_lists::timeline_rows;
 use flat_segments::Cut;
 use std::alloc::Global;
 use vod_source::Store;
-use vod_types::{Ask, Asked, Leaf, Refusal, Settings};
+use vod_types::{Ask, Asked, Leaf, Listed, Refusal, Settings};
 use vod_urls::read_path;
 
 /// The listed segments of the sequence of a media playlist's path, of any form, in order.
@@ -36,6 +37,8 @@ pub fn listed<S: Store>(
     ensures told { IfSome (S.content files.old) (λ known.
         AreListed (setup_of settings.now root.now known) path.now (result_map_both (λ rows. rows.items) (λ refusal. refusal) result)
         (S.log files.old) (S.log files.new)) }
+    // A path out of the grammar or of another kind asks nothing of the store.
+    ensures unread { IsErr (readable_as is_index every_path path.now) → files.new ≡ files.old }
     ensures content { S.content files.new ≡ S.content files.old }
     ensures later { S.faults files.old ≤ S.faults files.new }
     ensures store_failed { IsErrOf result StoreFailed → Rose (S.faults files.old) (S.faults files.new) }
@@ -56,7 +59,13 @@ fn index_of(leaf: Leaf) -> Option<(u32, Asked)>
 {
     match leaf {
         Leaf::Index { sequence, asked } => Some((sequence, asked)),
-        Leaf::Master | Leaf::Mpd | Leaf::Init { .. } | Leaf::Segment { .. } => None,
+        Leaf::Master
+        | Leaf::Mpd
+        | Leaf::Init { .. }
+        | Leaf::Segment { .. }
+        | Leaf::Iframes { .. }
+        | Leaf::Iframe { .. }
+        | Leaf::Clip { .. } => None,
     }
 }
 
@@ -74,7 +83,7 @@ fn ask_rows<S: Store>(
     requires names { IsInRange 1 32 (length (target_names ask.target)) }
     ensures told { IfSome (S.content files.old) (λ known.
         Came (λ rows. map listed_view rows.items) result (ask_rows_of (setup_of settings.now root.now known) ask sequence asked)
-        (ask_reads (setup_of settings.now root.now known) [] false [] ask) (S.log files.old) (S.log files.new)) }
+        (ask_reads (setup_of settings.now root.now known) [] false [] None ask) (S.log files.old) (S.log files.new)) }
     ensures content { S.content files.new ≡ S.content files.old }
     ensures later { S.faults files.old ≤ S.faults files.new }
     ensures store_failed { IsErrOf result StoreFailed → Rose (S.faults files.old) (S.faults files.new) }
@@ -85,8 +94,8 @@ fn ask_rows<S: Store>(
     }
 }
 
-// The listed segments of a sequence of what a request is about.
-fn sequence_rows<S: Store>(
+/// The listed segments of a sequence of what a request is about.
+pub(crate) fn sequence_rows<S: Store>(
     alloc: Global,
     files: &mut S,
     settings: &Settings,
@@ -98,6 +107,7 @@ fn sequence_rows<S: Store>(
     ensures told { IfSome (S.content files.old) (λ known.
         Came (λ rows. map listed_view rows.items) result (listed_segments (setup_of settings.now root.now known) (asking_view asking.now) sequence asked)
         (index_turns (setup_of settings.now root.now known) (asking_view asking.now) sequence asked) (S.log files.old) (S.log files.new)) }
+    ensures parts { IfOk result (λ rows. All HasPart rows.items) }
     ensures content { S.content files.new ≡ S.content files.old }
     ensures later { S.faults files.old ≤ S.faults files.new }
     ensures store_failed { IsErrOf result StoreFailed → Rose (S.faults files.old) (S.faults files.new) }
@@ -114,6 +124,7 @@ fn sequence_rows<S: Store>(
         timeline: &timeline,
         grid: &grid,
         align: settings.align,
+        edits: !settings.ignore_edits,
     };
     timeline_rows(alloc, files, cut, asked)
 }

@@ -5,30 +5,23 @@ ghost use Rattle.std.specs.Int.{IsInRange};
 ghost use Rattle.vod_source.specs.Causes.{Rose};
 ghost use Rattle.vod_types.specs.declared.refusal.Refusal.TheVariants.{NoMemory, StoreFailed, Unsupported};
 ghost use Rattle.vod_types.specs.declared.paths.Leaf.TheVariants as leaves;
-ghost use Rattle.vod_types.specs.declared.segments.Form.TheVariants.{Fmp4};
+ghost use Rattle.list_model.specs.Names.{IsAsked, IsLeafOf};
+ghost use Rattle.list_model.specs.Path.{is_dash};
 ghost use Rattle.origin_model.specs.Answers.{readable};
 ghost use Rattle.origin_model.specs.Requests.{target_names};
-ghost use Rattle.mp4_flat.specs.Asked.{asking_view, setup_of};
+ghost use Rattle.flat_lists.specs.Asked.{asking_view, setup_of};
 ghost use Rattle.mp4_flat.specs.Built.{built_paths, is_built_leaf};
 ghost use Rattle.mp4_flat.specs.Flat.{IsFlatAnswer, IsAskAnswer, IsLeafAnswer};
 
-use crate::asking::{Asking, asking_of};
+use flat_lists::{Asking, asking_of};
 use crate::init::init_of_part;
-use flat_segments::{Cut, fragment, segment_rows};
-use segmenter::Grid;
-use seq_timeline::{Timeline, timeline};
+use crate::listing::sequence_rows;
+use crate::playlist::playlist_of;
+use flat_segments::{Cut, FlatBody, segment_body, segment_rows};
 use std::alloc::Global;
 use vod_source::Store;
-use vod_types::{Ask, Asked, Form, Leaf, Name, Place, Refusal, Settings};
+use vod_types::{Ask, Asked, Form, Leaf, Name, Refusal, Settings};
 use vod_urls::read_path;
-
-/// The bytes of an answer. `cut` is there where the body ends before a bad sample: the file's place among the needed
-/// pieces of the segment, from 0, and the sample's number in its track, from 0.
-#[derive(Debug, Drop)]
-pub struct FlatBody {
-    pub bytes: Vec<u8>,
-    pub cut: Option<(u32, u64)>,
-}
 
 /// Answers a path with the settings `settings`, over the files below `root`.
 ///
@@ -76,19 +69,16 @@ fn unbuilt(alloc: Global) -> Refusal
 fn is_built(ask: &Ask) -> bool
     ensures { result ≡ built_paths ask.now }
 {
-    match ask.place {
-        Place::LocalDash | Place::MappedDash => is_built_leaf(ask.leaf),
-        Place::LocalHls | Place::MappedHls => false,
-    }
+    is_built_leaf(ask.leaf)
 }
 
 fn is_built_leaf(leaf: Leaf) -> bool
     ensures { result ≡ is_built_leaf leaf }
 {
     match leaf {
-        Leaf::Init { .. } => true,
-        Leaf::Segment { form, .. } => matches!(form, Form::Fmp4),
-        Leaf::Master | Leaf::Mpd | Leaf::Index { .. } => false,
+        Leaf::Index { .. } | Leaf::Init { .. } | Leaf::Segment { .. } => true,
+        Leaf::Master | Leaf::Mpd | Leaf::Iframes { .. } | Leaf::Iframe { .. } | Leaf::Clip { .. } =>
+            false,
     }
 }
 
@@ -101,6 +91,7 @@ fn answer_ask<S: Store>(
     ask: Ask,
 ) -> Result<FlatBody, Refusal>
     requires built { is_built_leaf ask.leaf ≡ true }
+    requires leaf { IsLeafOf (is_dash ask.place) ask.leaf }
     requires names { IsInRange 1 32 (length (target_names ask.target)) }
     ensures told { IfSome (S.content files.old) (λ known.
         IsAskAnswer (setup_of settings.now root.now known) ask result (S.log files.old) (S.log files.new)) }
@@ -114,6 +105,9 @@ fn answer_ask<S: Store>(
         Err(refusal) => return Err(refusal),
     };
     match leaf {
+        Leaf::Index { sequence, asked } => {
+            index_answer(alloc, files, settings, root, &asking, sequence, asked)
+        }
         Leaf::Init {
             part,
             sequence,
@@ -123,11 +117,41 @@ fn answer_ask<S: Store>(
             number,
             sequence,
             asked,
-            ..
+            form,
         } => segment_answer(
-            alloc, files, settings, root, &asking, number, sequence, asked,
+            alloc, files, settings, root, &asking, number, sequence, asked, form,
         ),
-        Leaf::Master | Leaf::Mpd | Leaf::Index { .. } => Err(unbuilt(alloc)),
+        Leaf::Master | Leaf::Mpd | Leaf::Iframes { .. } | Leaf::Iframe { .. } | Leaf::Clip { .. } =>
+            Err(unbuilt(alloc)),
+    }
+}
+
+// Answers a request for a media playlist.
+fn index_answer<S: Store>(
+    alloc: Global,
+    files: &mut S,
+    settings: &Settings,
+    root: &str,
+    asking: &Asking,
+    sequence: u32,
+    asked: Asked,
+) -> Result<FlatBody, Refusal>
+    requires sequence { sequence ≤ 9999 }
+    requires asked { IsAsked asked }
+    ensures told { IfSome (S.content files.old) (λ known.
+        IsLeafAnswer (setup_of settings.now root.now known) (asking_view asking.now) (leaves.Index sequence asked) result
+        (S.log files.old) (S.log files.new)) }
+    ensures content { S.content files.new ≡ S.content files.old }
+    ensures later { S.faults files.old ≤ S.faults files.new }
+    ensures store_failed { IsErrOf result StoreFailed → Rose (S.faults files.old) (S.faults files.new) }
+{
+    let rows = match sequence_rows(alloc, files, settings, root, asking, sequence, asked) {
+        Ok(rows) => rows,
+        Err(refusal) => return Err(refusal),
+    };
+    match playlist_of(alloc, &rows, sequence, asked, settings.hls_fmp4) {
+        Ok(bytes) => Ok(FlatBody { bytes, cut: None }),
+        Err(refusal) => Err(refusal),
     }
 }
 
@@ -153,13 +177,13 @@ fn init_answer<S: Store>(
         Ok(timeline) => timeline,
         Err(refusal) => return Err(refusal),
     };
-    match init_of_part(alloc, files, &timeline, part, asked) {
+    match init_of_part(alloc, files, &timeline, part, !settings.ignore_edits, asked) {
         Ok(bytes) => Ok(FlatBody { bytes, cut: None }),
         Err(refusal) => Err(refusal),
     }
 }
 
-// Answers a request for a segment of fragmented MP4.
+// Answers a request for a segment.
 fn segment_answer<S: Store>(
     alloc: Global,
     files: &mut S,
@@ -169,9 +193,10 @@ fn segment_answer<S: Store>(
     number: u32,
     sequence: u32,
     asked: Asked,
+    form: Form,
 ) -> Result<FlatBody, Refusal>
     ensures told { IfSome (S.content files.old) (λ known.
-        IsLeafAnswer (setup_of settings.now root.now known) (asking_view asking.now) (leaves.Segment number sequence asked Fmp4) result
+        IsLeafAnswer (setup_of settings.now root.now known) (asking_view asking.now) (leaves.Segment number sequence asked form) result
         (S.log files.old) (S.log files.new)) }
     ensures content { S.content files.new ≡ S.content files.old }
     ensures later { S.faults files.old ≤ S.faults files.new }
@@ -189,48 +214,11 @@ fn segment_answer<S: Store>(
         timeline: &timeline,
         grid: &grid,
         align: settings.align,
+        edits: !settings.ignore_edits,
     };
-    let rows = match segment_rows(alloc, files, cut, asked, number) {
+    let rows = match segment_rows(alloc, files, cut, asked, number, form) {
         Ok(rows) => rows,
         Err(refusal) => return Err(refusal),
     };
-    match fragment(alloc, files, number, rows) {
-        Ok(bytes) => Ok(FlatBody { bytes, cut: None }),
-        Err(refusal) => Err(refusal),
-    }
-}
-
-impl Asking {
-    ghost use Rattle.vod_types.specs.Results.{Answers};
-    ghost use Rattle.std.specs.Prelude.{IfOk, IfErr};
-    ghost use Rattle.clip_model.specs.Timeline.{timeline_of};
-    ghost use Rattle.segment_model.specs.Grid.{grid_of};
-
-    // The timeline of a sequence within the window.
-    pub(crate) fn timeline(
-        &self,
-        alloc: Global,
-        root: &str,
-        sequence: u32,
-    ) -> Result<Timeline, Refusal>
-        ensures answers { Answers (λ t. t) result (timeline_of root.now self.now.mapping sequence self.now.window self.now.tracks) }
-        ensures not_failed { IfErr result (λ refusal. refusal ≢ StoreFailed) }
-    {
-        timeline(
-            alloc,
-            root,
-            &self.mapping,
-            sequence,
-            self.window,
-            self.tracks.as_ref(),
-        )
-    }
-
-    // How the mapping and the settings cut the parts. The only refusal is `NoMemory`.
-    pub(crate) fn grid(&self, alloc: Global, settings: &Settings) -> Result<Grid, Refusal>
-        ensures grid { IfOk result (λ grid. grid ≡ grid_of settings.now self.now.mapping.segment_ms) }
-        ensures only { IfErr result (λ refusal. refusal ≡ NoMemory) }
-    {
-        Grid::new(alloc, settings, self.mapping.segment_ms())
-    }
+    segment_body(alloc, files, number, form, asked, rows)
 }

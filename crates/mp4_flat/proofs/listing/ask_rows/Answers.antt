@@ -1,6 +1,6 @@
 use Rattle.std.proofs.Common.{map}
-use Rattle.mp4_flat.specs.Asked.{asking_view, setup_of}
-use Rattle.mp4_flat.specs.Listings.{listed_view}
+use Rattle.flat_lists.specs.Asked.{asking_view, setup_of}
+use Rattle.segment_model.specs.Listing.{listed_view}
 use Rattle.vod_source.proofs.CallLemmas.{told_with_all, told_with_other}
 use Rattle.mp4_flat.proofs.ListedPaths.{ask_answered, ask_refused}
 use Rattle.mp4_flat.proofs.listing.ask_rows.Goals as goal

@@ -1,7 +1,7 @@
 use Rattle.std.proofs.Common.{sym, ◌∙◌, []}
-use Rattle.mp4_flat.specs.Asked.{setup_of}
+use Rattle.flat_lists.specs.Asked.{setup_of}
 use Rattle.vod_source.proofs.CallLemmas.{told_all, told_with_all}
-use Rattle.mp4_flat.proofs.Leaves.{built_is_readable, built_leaf, few_names, form_refused, path_answered, path_refused}
+use Rattle.mp4_flat.proofs.Leaves.{built_is_readable, built_leaf, few_names, form_refused, leaf_in-range, path_answered, path_refused}
 use Rattle.mp4_flat.proofs.requests.answer.Goals as goal
 
 pub returns-in-Err-clause-told : goal.returns-in-Err-clause-told
@@ -16,6 +16,9 @@ returns-then-not-is_built-clause-told g c =
 
 pub answer_ask-requires-clause-built : goal.answer_ask-requires-clause-built
 answer_ask-requires-clause-built g c = built_leaf c.in-Ok.ask (sym c.if-not-is_built.false ∙ c.is_built.ensures)
+
+pub answer_ask-requires-clause-leaf : goal.answer_ask-requires-clause-leaf
+answer_ask-requires-clause-leaf g c = leaf_in-range c.args.path.now c.in-Ok.ask c.in-Ok.ensures
 
 pub answer_ask-requires-clause-names : goal.answer_ask-requires-clause-names
 answer_ask-requires-clause-names g c = few_names (setup_of c.args.settings.now c.args.root.now []) c.args.path.now c.in-Ok.ask c.in-Ok.ensures

@@ -1,0 +1,4 @@
+pub mod AskingLemmas
+pub mod ListedCells
+pub mod ListedParts
+pub mod ListedTimelines

@@ -1,0 +1,5 @@
+use Rattle.flat_lists.proofs.ListedTimelines.{cells_many}
+use Rattle.flat_lists.proofs.listed_timeline.few_cells.Goals as goal
+
+pub returns-then-all-gt100000-clause-many : goal.returns-then-all-gt100000-clause-many
+returns-then-all-gt100000-clause-many c = cells_many c.sum_of-all.result _ c.sum_of-all.ensures c.if-all-gt100000.true

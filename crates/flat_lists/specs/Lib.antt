@@ -1,0 +1,5 @@
+pub mod Asked
+pub mod Mapped
+pub mod ListedCells
+pub mod ListedParts
+pub mod Listings

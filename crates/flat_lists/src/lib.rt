@@ -1,0 +1,17 @@
+//! The lists of a request by the plain way, over the written-out samples of its pieces: what the request is about, the listed
+//! segments and the I-frames of a sequence, and the texts of master playlists and media presentation descriptions.
+#![tactic(auto)]
+
+mod asking;
+mod description;
+mod iframes;
+mod listed_part;
+mod listed_parts;
+mod listed_timeline;
+mod master;
+
+pub use asking::{Asking, asking_of};
+pub use description::presentation_description;
+pub use iframes::iframe_rows;
+pub use listed_timeline::timeline_rows;
+pub use master::master_playlist;
