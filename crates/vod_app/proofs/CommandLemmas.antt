@@ -4,7 +4,7 @@ use Rattle.std.specs.Prelude.{◌⊎◌, ◌&&◌, not, ◌==◌, bytes_eq, code
 use Rattle.std.proofs.lemmas.Slice.Eq.{bytes_eq-Decides}
 use Rattle.vod_types.specs.Numbers.{number_up_to}
 use Rattle.vod_types.specs.Options.{passing}
-use Rattle.list_model.specs.Command.{Command, Requested, get, reads, plan, pack, serve, rehearse, command_of, none_empty}
+use Rattle.list_model.specs.Command.{Command, Requested, get, reads, plan, pack, serve, turns, rehearse, ServingForm, command_of, none_empty}
 use Rattle.vod_app.specs.Commands.{is_built, built_command}
 
 -- the command of four words, none of which is empty, by what the first one is
@@ -72,14 +72,14 @@ pub built-plan : (root settings path : List ℕ) → none_empty (root ∷ settin
 built-plan root settings path e = built_command-four (codes "plan") root settings path ∙ rw e refl
 
 -- words of another number
-serve_unbuilt : (root settings addr : List ℕ) (found : Option ℕ)
-    → option_and_then (passing is_built) (option_and_then (λ n. if n == 0 then None else Some (serve root settings addr n)) found) ≡ None
-serve_unbuilt root settings addr None = refl
-serve_unbuilt root settings addr (Some n) = by_count (n == 0)
+count_unbuilt : (command : ℕ → Command) → ((n : ℕ) → is_built (command n) ≡ false) → (found : Option ℕ)
+    → option_and_then (passing is_built) (option_and_then (λ n. if n == 0 then None else Some (command n)) found) ≡ None
+count_unbuilt command h None = refl
+count_unbuilt command h (Some n) = by_count (n == 0)
   where
-    by_count : (is_none : Bool) → option_and_then (passing is_built) (if is_none then None else Some (serve root settings addr n)) ≡ None
+    by_count : (is_none : Bool) → option_and_then (passing is_built) (if is_none then None else Some (command n)) ≡ None
     by_count true = refl
-    by_count false = refl
+    by_count false = ap (λ b. if b then Some (command n) else None) (h n)
 
 pub other_number : (words : List (List ℕ)) → length words ≢ 4 → built_command words ≡ None
 unfolding built_command command_of
@@ -93,13 +93,17 @@ other_number (a ∷ b ∷ []) h = none_of (bytes_eq a (codes "rehearse")) (numbe
     none_of false n = refl
 other_number (a ∷ b ∷ c ∷ []) h = refl
 other_number (a ∷ b ∷ c ∷ d ∷ []) h = absurd (h refl)
-other_number (a ∷ b ∷ c ∷ d ∷ e ∷ []) h = by_test (bytes_eq a (codes "serve") && none_empty (b ∷ c ∷ d ∷ []))
+other_number (a ∷ b ∷ c ∷ d ∷ e ∷ []) h = by_test (none_empty (b ∷ c ∷ d ∷ [])) (bytes_eq (codes "serve") a) (bytes_eq (codes "turns") a)
   where
-    by_test : (test : Bool)
+    by_test : (all is_serve is_turns : Bool)
         → option_and_then (passing is_built)
-        (if test then option_and_then (λ n. if n == 0 then None else Some (serve b c d n)) (number_up_to 4294967295 e) else None) ≡ None
-    by_test true = serve_unbuilt b c d (number_up_to 4294967295 e)
-    by_test false = refl
+        (if all then option_and_then (λ (form : ServingForm). option_and_then (λ n. if n == 0 then None else Some (form.command b c d n)) (number_up_to form.most e))
+        (if is_serve then Some (record { word = codes "serve"; most = 4294967295; command = serve })
+        else (if is_turns then Some (record { word = codes "turns"; most = 64; command = turns }) else None)) else None) ≡ None
+    by_test false is_serve is_turns = refl
+    by_test true true is_turns = count_unbuilt (serve b c d) (λ n. refl) (number_up_to 4294967295 e)
+    by_test true false true = count_unbuilt (turns b c d) (λ n. refl) (number_up_to 64 e)
+    by_test true false false = refl
 other_number (a ∷ b ∷ c ∷ d ∷ e ∷ f ∷ words) h = refl
 
 -- four words by their places

@@ -85,7 +85,7 @@ module _ (due : Due) (reads : List Read) (out : Option (List ℕ)) (log log_now 
 -- a request that is refused
 pub written_refused : {due : Due} {built : Ask → Bool} {o : Setup} {with_body : Bool} {path : List ℕ} (reads : List Read) (r : Refusal) (outcome : Outcome)
     (out : Option (List ℕ)) (log log_now : Option (List Read)) → outcome ≡ refused_outcome r → (r ≢ NoMemory → r ≢ StoreFailed → due ≡ ([], Some r))
-    → AreReads built o [] with_body path reads → LogsReads {X = List ℕ} (Err r) reads log log_now → IsWritten due built o with_body path outcome out out log log_now
+    → AreReads built o [] with_body path None reads → LogsReads {X = List ℕ} (Err r) reads log log_now → IsWritten due built o with_body path outcome out out log log_now
 written_refused {due} {built} {o} {with_body} {path} reads r outcome out log log_now e refuses are logged =
     let gained = gained_refused due reads out log log_now r refuses logged in
     subst (λ told. IsWritten due built o with_body path told out out log log_now) (sym e)
@@ -95,7 +95,7 @@ written_refused {due} {built} {o} {with_body} {path} reads r outcome out log log
 
 -- the reads that a request may make, whatever was refused before
 abbrev some_reads : (Ask → Bool) → Requested → Bool → Result Setup Refusal → List Read
-some_reads built q with_body (Ok o) = path_reads built o [] with_body [] q.path
+some_reads built q with_body (Ok o) = path_reads built o [] with_body [] q.path None
 some_reads built q with_body (Err r) = []
 
 are_some_reads : (built : Ask → Bool) (files : Files) (q : Requested) (with_body : Bool) (setup : Result Setup Refusal)
@@ -165,21 +165,21 @@ pub written_of : (built : Ask → Bool) (o : Setup) (given path : List ℕ) (out
 written_of built o given path outcome r out log log_now same e a =
     let b = subst (λ p. IsFlatAnswer built o p (Err r) log log_now) same a in
     written_refused b.reads r outcome out log log_now e
-    (λ known_memory known_store. ap due_answer (flat_refused (answer built o path) r (b.answered known_memory known_store))) b.reads_are b.logged
+    (λ known_memory known_store. ap due_answer (flat_refused (answer built o path None) r (b.answered known_memory known_store))) b.reads_are b.logged
 
 module _ (built : Ask → Bool) (files : Files) (q : Requested) where
   pub got_of : (outcome : Outcome) (r : Refusal) (out : Option (List ℕ)) (log log_now : Option (List Read))
       → outcome ≡ refused_outcome r → AreSettingsRead files q.settings (Err r) log log_now → IsGet built files q outcome out out log log_now
   unfolding get_due
   got_of outcome r out log log_now e a =
-      run_refused (λ s. due_answer (s >>= λ o. answer built o q.path)) built files q true (λ r. refl) r outcome out log log_now e a
+      run_refused (λ s. due_answer (s >>= λ o. answer built o q.path None)) built files q true (λ r. refl) r outcome out log log_now e a
 
   pub got_with : (s : Settled) (outcome : Outcome) (out out_now : Option (List ℕ)) (log log_mid log_now : Option (List Read))
       → AreSettingsRead files q.settings (Ok s) log log_mid → IsAnswerWritten built (setup_with files q s) q.path outcome out out_now log_mid log_now
       → IsGet built files q outcome out out_now log log_now
   unfolding get_due
   got_with s outcome out out_now log log_mid log_now a w =
-      run_with (λ s. due_answer (s >>= λ o. answer built o q.path)) built files q true s outcome out out_now log log_mid log_now a w
+      run_with (λ s. due_answer (s >>= λ o. answer built o q.path None)) built files q true s outcome out out_now log log_mid log_now a w
 
 -- ---- the command `plan`
 

@@ -169,8 +169,9 @@ settings_of-refused bytes =
     rule_refused (or_default false as_bool (get (codes "align") members)) 5 _ (λ align.
     rule_refused (or_default LastShort (λ d. option_and_then policy_of_text (as_str d)) (get (codes "policy") members)) 6 _ (λ policy.
     rule_refused (or_default false as_bool (get (codes "hls_fmp4") members)) 7 _ (λ hls_fmp4.
-    rule_refused (or_default true (λ d. option_and_then (passing (λ b. b)) (as_bool d)) (get (codes "ignore_edits") members)) 8 _
-    (λ ignore_edits e h. absurd (ok_is_err _ e h)))))))))
+    rule_refused (or_default false as_bool (get (codes "ignore_edits") members)) 8 _ (λ ignore_edits.
+    rule_refused (or_default false as_bool (get (codes "iframes") members)) 9 _
+    (λ iframes e h. absurd (ok_is_err _ e h))))))))))
   where
     ok_is_err : (s : Settled) (r : Refusal) → ◌≡◌ {A = Result Settled Refusal} (Ok s) (Err r) → ⊥
     ok_is_err s r e = cc

@@ -1,7 +1,7 @@
 -- Which forms of words are built so far; this project's own.
 use Rattle.std.specs.Prelude.{ℕ, Bool, true, false, List, Option, option_and_then}
 use Rattle.vod_types.specs.Options.{passing}
-use Rattle.list_model.specs.Command.{Command, Requested, get, reads, plan, pack, serve, rehearse, command_of}
+use Rattle.list_model.specs.Command.{Command, Requested, get, reads, plan, pack, serve, turns, rehearse, command_of}
 use Rattle.vod_app.specs.declared.words.Request.{Request}
 use Rattle.vod_app.specs.declared.words.Command as words
 use Rattle.vod_app.specs.declared.words.Command.TheVariants as commands
@@ -13,6 +13,7 @@ is_built (reads q) = false
 is_built (plan q) = true
 is_built (pack q) = false
 is_built (serve root settings addr count) = false
+is_built (turns root settings addr count) = false
 is_built (rehearse n) = false
 
 -- the command that the words spell, if it is built

@@ -43,12 +43,12 @@ cut_refusal (Some cut) = Some (refusals.BadNal cut.0 cut.1)
 pub record IsWritten (due : Due) (built : Ask → Bool) (o : Setup) (with_body : Bool) (path : List ℕ) (outcome : Outcome) (out out_now : Option (List ℕ)) (log log_now : Option (List Read)) : Type 0 where
   pub wrote : GainsDue due outcome out out_now
   pub reads : List Read
-  pub reads_are : AreReads built o [] with_body path reads
+  pub reads_are : AreReads built o [] with_body path None reads
   pub logged : GainsReads reads outcome log log_now
 
 -- of the answer of a path
 abbrev pub IsAnswerWritten : (Ask → Bool) → Setup → List ℕ → Outcome → Option (List ℕ) → Option (List ℕ) → Option (List Read) → Option (List Read) → Type 0
-IsAnswerWritten built o path outcome out out_now log log_now = IsWritten (due_answer (answer built o path)) built o true path outcome out out_now log log_now
+IsAnswerWritten built o path outcome out out_now log log_now = IsWritten (due_answer (answer built o path None)) built o true path outcome out out_now log log_now
 
 -- of the listed rows of a path
 abbrev pub IsPlanWritten : (Ask → Bool) → Setup → List ℕ → Outcome → Option (List ℕ) → Option (List ℕ) → Option (List Read) → Option (List Read) → Type 0

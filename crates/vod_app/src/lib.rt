@@ -10,6 +10,8 @@ ghost use Rattle.mp4_flat.specs.Listings.{every_path};
 ghost use Rattle.vod_app.specs.Commands.{built_command};
 ghost use Rattle.vod_app.specs.Runs.{IsGet, IsPlan, PlanOutcome, TellsOutcome, outcome_of};
 
+#[cfg(test)]
+mod edit_tests;
 mod ends;
 mod lines;
 #[cfg(test)]
@@ -48,8 +50,8 @@ pub struct Ended<S> {
 /// | `get ROOT SETTINGS PATH` | the answer of PATH |
 /// | `plan ROOT SETTINGS PATH` | for each segment of the media playlist of PATH its number, start, length, video and audio samples |
 ///
-/// `plan` answers the path of every media playlist, also where `get` refuses it as a form that isn't built. Times are in
-/// 1/90000 s, and a line has one space between its numbers.
+/// `get` answers media playlists, initialization segments and segments, and refuses every other path of the grammar as a form
+/// that isn't built; `plan` answers media playlists. Times are in 1/90000 s, and a line has one space between its numbers.
 ///
 /// | status | where | line on `err` |
 /// |---|---|---|
@@ -65,14 +67,17 @@ pub fn run<S: Store, D: Door, K: Sink, E: Sink>(
     alloc: Global,
     words: &[String],
     mut store: S,
-    _door: &mut D,
+    door: &mut D,
     out: &mut K,
     err: &mut E,
 ) -> Ended<S>
-    // Status 1 is that of words that spell no command.
+    // Status 1 is that of words that spell no command: nothing is written then, and the store is as it was.
     ensures usage { (result.status ≡ 1) ↔ (built_command (map string_bytes words.now) ≡ None) }
-    ensures unused { result.status ≡ 1 → K.written out.new ≡ K.written out.old }
-    ensures unread { result.status ≡ 1 → S.log result.store ≡ S.log store }
+    ensures unused { result.status ≡ 1 → out.new ≡ out.old }
+    ensures unread { result.status ≡ 1 → result.store ≡ store }
+
+    // No command that is built opens the door.
+    ensures door { door.new ≡ door.old }
 
     // What `get` writes and reads, wherever the store tells its content.
     ensures get { IfSome (S.content store) (λ files. (q : Requested) → built_command (map string_bytes words.now) ≡ Some (get_of q) →
@@ -112,8 +117,8 @@ fn run_command<S: Store, K: Sink>(
     out: &mut K,
 ) -> End
     ensures form { (outcome_of result ≡ usage) ↔ (built_command (map string_bytes words.now) ≡ None) }
-    ensures unused { outcome_of result ≡ usage → K.written out.new ≡ K.written out.old }
-    ensures unread { outcome_of result ≡ usage → S.log store.new ≡ S.log store.old }
+    ensures unused { outcome_of result ≡ usage → out.new ≡ out.old }
+    ensures unread { outcome_of result ≡ usage → store.new ≡ store.old }
     ensures got { IfSome (S.content store.old) (λ files. (q : Requested) → built_command (map string_bytes words.now) ≡ Some (get_of q) →
         IsGet built_paths files q (outcome_of result) (K.written out.old) (K.written out.new) (S.log store.old) (S.log store.new)) }
     ensures planned { IfSome (S.content store.old) (λ files. (q : Requested) → built_command (map string_bytes words.now) ≡ Some (plan_of q) →

@@ -14,7 +14,7 @@ use vod_source::{Sink, SinkFailed};
 use vod_types::Refusal;
 
 const USAGE: &str =
-    "usage: vodpack get|reads|plan|pack ROOT SETTINGS PATH, serve ROOT SETTINGS ADDR COUNT, rehearse N\n";
+    "usage: vodpack get|reads|plan|pack ROOT SETTINGS PATH, serve|turns ROOT SETTINGS ADDR COUNT, rehearse N\n";
 
 /// Writes the line of an end. Where the sink fails a prefix of it stands there, and nothing else changes.
 pub fn tell<E: Sink>(err: &mut E, end: &End)

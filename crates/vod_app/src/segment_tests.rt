@@ -37,7 +37,7 @@ const INIT_SEGMENT: &[u8; 580] = b"\
     ";
 
 // The fragment of two samples of 10 and 20 bytes at 48000 with delta 1024, box by box.
-const TWO_SAMPLES: &[u8; 182] = b"\
+pub(crate) const TWO_SAMPLES: &[u8; 182] = b"\
     \x00\x00\x00\x18stypmsdh\x00\x00\x00\x00msdhiso6\
     \x00\x00\x00\x78moof\x00\x00\x00\x10mfhd\x00\x00\x00\x00\x00\x00\x00\x01\
     \x00\x00\x00\x60traf\x00\x00\x00\x10tfhd\x00\x02\x00\x00\x00\x00\x00\x02\
@@ -66,6 +66,12 @@ const OUT_OF_ORDER: &[u8; 287] = b"\
     \x00\x00\x07\x80\x00\x00\x00\x02\x02\x00\x00\x00\x00\x00\x00\x00\
     \x00\x00\x07\x80\x00\x00\x00\x03\x02\x00\x00\x00\x00\x00\x00\x00\
     \x00\x00\x00\x1fmdatIIIIIPPPPPPBBBBBBBaabbb\
+    ";
+
+// The playlist of 300 pictures of 3003 units, which last 10.01 seconds.
+const PLAYLIST: &[u8; 145] = b"\
+    #EXTM3U\n#EXT-X-VERSION:3\n#EXT-X-TARGETDURATION:10\n#EXT-X-MEDIA-SEQUENCE:1\n#EXT-X-PLAYLIST-TYPE:VOD\n\
+    #EXTINF:10.010,\nseg-1-f1-v1.ts\n#EXT-X-ENDLIST\n\
     ";
 
 // What stands behind a place, or nothing.
@@ -100,8 +106,12 @@ fn run_of(alloc: Global, body: &[u8], at: usize) -> Result<String, Fail> {
     Ok(text)
 }
 
-// The number of a fragment and its runs, each behind a semicolon, or the length of an initialization segment.
+// The number of a fragment and its runs, each behind a semicolon, or the length of an initialization segment or of a
+// transport stream.
 fn body_of(alloc: Global, body: &[u8]) -> Result<String, Fail> {
+    if body.starts_with(b"G") {
+        return Ok(format!(in alloc; "stream {}", body.len())?);
+    }
     if behind(body, 4).starts_with(b"ftyp") {
         return Ok(format!(in alloc; "init {}", body.len())?);
     }
@@ -135,7 +145,7 @@ fn told(alloc: Global, status: u8, body: &[u8], line: &[u8]) -> Result<String, F
 
 // Rows of settings, path and what is due: a refusal, the length of an initialization segment, or a fragment's number and
 // for each track its id, the two halves of the time of its first sample, how many samples it has, and the numbers of the
-// first and the last one.
+// first and the last one; of a transport stream its length.
 const ROWS: &str = r"
 # 468 * 1920 = 898560 is below 900000, so sample 469 begins the second fragment, and 938 the third.
 - /local/dash/aac.mp4/fragment-1-a1.m4s | 1; 2 0 0 469 0 468
@@ -258,13 +268,16 @@ long.json /mapped/dash/five.json/fragment-5-v1.m4s | refused 40 NoSegment
 - /local/dash/two.mp4/init-c0-f1-a1.mp4 | refused 45 NoPart
 - /local/dash/two.mp4/fragment-0-a1.m4s | refused 40 NoSegment
 - /local/dash/two.mp4/fragment-2-a1.m4s | refused 40 NoSegment
+# The same by the names of HLS, and a stream of one sample of 100 bytes: two packets of tables, and one with the sample.
+- /local/hls/a.mp4/seg-1-f1-v1.m4s | 1; 1 0 0 250 0 249
+- /mapped/hls/m.json/init-c1-f1-v1.mp4 | init 622
+- /local/hls/one.mp4/seg-1-f1-a1.ts | stream 564
 # Forms that aren't built.
 - /local/hls/a.mp4/master.m3u8 | refused 14 Unsupported
-- /local/hls/a.mp4/index-f1-v1.m3u8 | refused 14 Unsupported
-- /local/hls/a.mp4/seg-1-f1-v1.ts | refused 14 Unsupported
-- /local/hls/a.mp4/seg-1-f1-v1.m4s | refused 14 Unsupported
-- /mapped/hls/m.json/init-c1-f1-v1.mp4 | refused 14 Unsupported
 - /local/dash/a.mp4/manifest.mpd | refused 14 Unsupported
+- /local/hls/a.mp4/iframes-f1-v1.m3u8 | refused 14 Unsupported
+- /local/hls/a.mp4/iframe-1-1-f1-v1.ts | refused 14 Unsupported
+- /local/dash/a.mp4/clip-f1-v1.mp4 | refused 14 Unsupported
 ";
 
 #[test]
@@ -277,7 +290,7 @@ fn requests_are_answered_by_their_rows(rt: HostRuntime) -> Result<(), Fail> {
             rows.push(row)?;
         }
     }
-    assert_eq!(rt; rows.len(), 106);
+    assert_eq!(rt; rows.len(), 108);
     for row in &rows {
         let (asked, due) = row.split_once(" | ").ok_or("a row without an answer")?;
         let (settings, path) = asked.split_once(' ').ok_or("a row without a path")?;
@@ -319,10 +332,11 @@ type Damage = (&'static [u8; 4], usize, &'static [u8], &'static str);
 #[test]
 fn bodies_are_those_of_the_standard(rt: HostRuntime) -> Result<(), Fail> {
     let alloc = rt.alloc();
-    let rows: [(&str, &[u8]); 3] = [
+    let rows: [(&str, &[u8]); 4] = [
         ("/local/dash/two.mp4/init-c1-f1-a1.mp4", INIT_SEGMENT),
         ("/local/dash/two.mp4/fragment-1-a1.m4s", TWO_SAMPLES),
         ("/local/dash/order.mp4/fragment-1-v1-a1.m4s", OUT_OF_ORDER),
+        ("/local/hls/ntsc.mp4/index-f1-v1.m3u8", PLAYLIST),
     ];
     let mut store = films(alloc)?;
     for (path, due) in rows {

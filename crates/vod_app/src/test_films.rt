@@ -3,7 +3,7 @@
 use super::*;
 use std::alloc::Global;
 use std::test::Fail;
-use vod_gen::{MovieSpec, TrackSpec, aac_entry, avc_entry, build};
+use vod_gen::{MovieSpec, TrackSpec, aac_entry, avc_entry, build, with_edits};
 use vod_source::{MemDoor, MemStore, VecSink};
 use vod_types::{Kind, Name};
 
@@ -117,25 +117,36 @@ pub(crate) fn two_samples(alloc: Global) -> Result<Vec<u8>, Fail> {
     film(alloc, vec![in alloc; sound(alloc, &samples)?]?)
 }
 
-/// A film of three pictures with offsets of 2, -1 and 0, of which the first alone is a sync sample, and of two samples of
-/// audio.
-pub(crate) fn out_of_order(alloc: Global) -> Result<Vec<u8>, Fail> {
-    let pictures = vec![in alloc;
+// A track of three pictures with these offsets, of which the first alone is a sync sample.
+fn pictures(alloc: Global, offsets: Vec<(u32, i32)>) -> Result<TrackSpec, Fail> {
+    let samples = vec![in alloc;
         b"IIIII".to_vec(alloc)?,
         b"PPPPPP".to_vec(alloc)?,
         b"BBBBBBB".to_vec(alloc)?,
     ]?;
-    let video = TrackSpec {
+    Ok(TrackSpec {
         kind: Kind::Video,
         timescale: 25,
         stts: vec![in alloc; (3, 1)]?,
-        ctts: Some(vec![in alloc; (1, 2), (1, -1), (1, 0)]?),
+        ctts: Some(offsets),
         stss: Some(vec![in alloc; 1]?),
-        samples: pictures,
+        samples,
         entry: entry(alloc, Kind::Video)?,
-    };
+    })
+}
+
+/// A film of three pictures with offsets of 2, -1 and 0, of which the first alone is a sync sample, and of two samples of
+/// audio.
+pub(crate) fn out_of_order(alloc: Global) -> Result<Vec<u8>, Fail> {
+    let video = pictures(alloc, vec![in alloc; (1, 2), (1, -1), (1, 0)]?)?;
     let samples: [&[u8]; 2] = [b"aa", b"bbb"];
     film(alloc, vec![in alloc; video, sound(alloc, &samples)?]?)
+}
+
+// A film of one sample of audio, of 100 bytes.
+fn one_sample(alloc: Global) -> Result<Vec<u8>, Fail> {
+    let samples: [&[u8]; 1] = [&[7; 100]];
+    film(alloc, vec![in alloc; sound(alloc, &samples)?]?)
 }
 
 // Pictures of 20 seconds, audio of 21.3 seconds, and a second audio track of 2.1 seconds.
@@ -276,11 +287,35 @@ pub(crate) fn films(alloc: Global) -> Result<MemStore, Fail> {
         add(alloc, &mut files, name, film_of(alloc, kind, shape)?)?;
     }
     add(alloc, &mut files, "/r/av.mp4", three_tracks(alloc)?)?;
+    add(alloc, &mut files, "/r/one.mp4", one_sample(alloc)?)?;
     add(alloc, &mut files, "/r/two.mp4", two_samples(alloc)?)?;
     add(alloc, &mut files, "/r/order.mp4", out_of_order(alloc)?)?;
     let mut wide = b"{}".to_vec(alloc)?;
     wide.resize(1_048_577, b' ')?;
     add(alloc, &mut files, "/r/wide.json", wide)?;
+    Ok(MemStore::new(files, Vec::new(alloc)))
+}
+
+/// Films with edit lists, below `/r`: one that skips 1024 ticks of two samples, one that skips two ticks of pictures that are
+/// shown two ticks late, one that waits a second, and one whose list is broken; and settings with which they aren't looked at.
+pub(crate) fn edited_films(alloc: Global) -> Result<MemStore, Fail> {
+    let two = two_samples(alloc)?;
+    let late = film(
+        alloc,
+        vec![in alloc; pictures(alloc, vec![in alloc; (3, 2)]?)?]?,
+    )?;
+    let long = film_of(alloc, Kind::Audio, aac(469, 0))?;
+    let skip = with_edits(alloc, &two, Kind::Audio, &[(0, 1024)])?;
+    let shown = with_edits(alloc, &late, Kind::Video, &[(0, 2)])?;
+    let wait = with_edits(alloc, &long, Kind::Audio, &[(1000, -1), (0, 0)])?;
+    let broken = with_edits(alloc, &two, Kind::Audio, &[(0, -2)])?;
+    let ignore = br#"{"ignore_edits":true}"#.to_vec(alloc)?;
+    let mut files = Vec::new(alloc);
+    add(alloc, &mut files, "ignore.json", ignore)?;
+    add(alloc, &mut files, "/r/skip.mp4", skip)?;
+    add(alloc, &mut files, "/r/shown.mp4", shown)?;
+    add(alloc, &mut files, "/r/wait.mp4", wait)?;
+    add(alloc, &mut files, "/r/broken.mp4", broken)?;
     Ok(MemStore::new(files, Vec::new(alloc)))
 }
 

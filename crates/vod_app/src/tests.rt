@@ -9,23 +9,26 @@ use std::test::Fail;
 use vod_source::{MemDoor, MemSink, MemStore};
 use vod_types::{Name, SegmentRow};
 
-// A run: its words, its settings file `s.json`, and the call on the store that fails; and what is due.
+// A run: its words, its settings file `s.json`, the call on the store that fails, and the room for the line; and what is due.
 #[derive(Drop)]
 struct Case {
     words: &'static [&'static str],
     settings: &'static str,
     fails: u64,
+    room: usize,
     status: u8,
     line: &'static str,
 }
 
 const USAGE: &str =
-    "usage: vodpack get|reads|plan|pack ROOT SETTINGS PATH, serve ROOT SETTINGS ADDR COUNT, rehearse N\n";
+    "usage: vodpack get|reads|plan|pack ROOT SETTINGS PATH, serve|turns ROOT SETTINGS ADDR COUNT, rehearse N\n";
 
 // A fragment's path, of the file `a.mp4`.
 const PATH: &str = "/local/dash/a.mp4/fragment-1-a1.m4s";
 
-// The path of a media playlist of that file.
+// The path of a form that isn't built, and that of a media playlist of that file.
+const MASTER: &str = "/local/hls/a.mp4/master.m3u8";
+
 const LIST: &str = "/local/hls/a.mp4/index-v1-a1.m3u8";
 
 fn words(
@@ -38,8 +41,17 @@ fn words(
         words,
         settings,
         fails: 0,
+        room: 200,
         status,
         line,
+    }
+}
+
+// Asks for a form that isn't built, over a store of which this call fails.
+fn failing(fails: u64, status: u8, line: &'static str) -> Case {
+    Case {
+        fails,
+        ..words(&["get", "/r", "s.json", MASTER], "{}", status, line)
     }
 }
 
@@ -56,7 +68,7 @@ fn is_due(alloc: Global, case: &Case) -> Result<bool, Fail> {
     let store = MemStore::new(vec![in alloc; file]?, vec![in alloc; case.fails]?);
     let mut door = MemDoor::new(alloc, Vec::new(alloc), Vec::new(alloc))?;
     let mut out = MemSink::new(alloc, 100, Vec::new(alloc))?;
-    let mut err = MemSink::new(alloc, 200, Vec::new(alloc))?;
+    let mut err = MemSink::new(alloc, case.room, Vec::new(alloc))?;
     let ended = run(alloc, &spelled, store, &mut door, &mut out, &mut err);
     Ok(
         ended.status == case.status
@@ -83,7 +95,7 @@ fn each_end_has_its_status_and_line(rt: HostRuntime) -> Result<(), Fail> {
         words(&["Plan", "/r", "-", LIST], "", 1, USAGE),
         words(&["pack", "/r", "-", LIST], "", 1, USAGE),
         words(&["rehearse", "1"], "", 1, USAGE),
-        words(&["get", "/r", "-", LIST], "", 2, form),
+        words(&["get", "/r", "-", MASTER], "", 2, form),
         words(&["get", "/r", "-", PATH], "", 2, absent),
         words(&["plan", "/r", "-", LIST], "", 2, absent),
         words(
@@ -99,7 +111,7 @@ fn each_end_has_its_status_and_line(rt: HostRuntime) -> Result<(), Fail> {
             "refused 4 BadPath\n",
         ),
         words(
-            &["get", "/r", "s.json", LIST],
+            &["get", "/r", "s.json", MASTER],
             "{\"segment_ms\":2000,\"policy\":\"last_long\"}",
             2,
             form,
@@ -125,44 +137,19 @@ fn each_end_has_its_status_and_line(rt: HostRuntime) -> Result<(), Fail> {
             "refused 6 BadSettings\n",
         ),
         words(&["plan", "/r", "absent.json", LIST], "{}", 2, absent),
+        // Two calls read the settings, and none is made for the path.
+        failing(1, 3, "store failed\n"),
+        failing(2, 3, "store failed\n"),
+        failing(3, 2, form),
+        // A line that can't be written changes nothing.
+        Case {
+            room: 0,
+            ..words(&["get"], "", 1, "")
+        },
     ];
     for case in &cases {
         assert!(rt; is_due(alloc, case)?, "at {:?}", case.words);
     }
-    Ok(())
-}
-
-#[test]
-fn store_that_fails_ends_the_run(rt: HostRuntime) -> Result<(), Fail> {
-    let alloc = rt.alloc();
-    for (fails, status, line) in [
-        (1, 3, "store failed\n"),
-        (2, 3, "store failed\n"),
-        (3, 2, "refused 14 Unsupported\n"),
-    ] {
-        let case = Case {
-            words: &["get", "/r", "s.json", LIST],
-            settings: "{}",
-            fails,
-            status,
-            line,
-        };
-        assert!(rt; is_due(alloc, &case)?, "at call {fails}");
-    }
-    Ok(())
-}
-
-#[test]
-fn line_that_cannot_be_written_changes_nothing(rt: HostRuntime) -> Result<(), Fail> {
-    let alloc = rt.alloc();
-    let word = vec![in alloc; String::from_str(alloc, "get")?]?;
-    let store = MemStore::new(Vec::new(alloc), Vec::new(alloc));
-    let mut door = MemDoor::new(alloc, Vec::new(alloc), Vec::new(alloc))?;
-    let mut out = MemSink::new(alloc, 0, Vec::new(alloc))?;
-    let mut err = MemSink::new(alloc, 0, Vec::new(alloc))?;
-    let ended = run(alloc, &word, store, &mut door, &mut out, &mut err);
-    assert_eq!(rt; ended.status, 1);
-    assert!(rt; err.written().is_empty());
     Ok(())
 }
 
