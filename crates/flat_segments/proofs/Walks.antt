@@ -243,6 +243,7 @@ of_one_more asked count pieces p c n now of at is added sound bounds = record {
       (All-append (IsTyped asked) n.files.items (added.file ∷ []) of.typed (All-cons (IsTyped asked) added.file [] (added.typed ∙ sound_typed asked c sound) (All-nil (IsTyped asked))));
   placed = bounds;
 }
+
 -- nothing yet
 pub none_walked : (files : Files) (edits : Bool) (asked : Asked) (pieces : List Piece) (n : Needed) (log : Option (List Read)) → n.files.items ≡ [] → part_rows n.rows ≡ two_lists [] [] → IsWalk files edits asked pieces pieces [] n log log
 none_walked files edits asked pieces n log none rows = record {

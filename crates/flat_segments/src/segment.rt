@@ -116,7 +116,15 @@ fn open_segment<S: Store>(
     };
     let count = cells(cut.grid, length_of(part.start, &needed.rows.lead));
     match place_among(&[count], number) {
-        Ok((_, k)) => cell_rows(alloc, &cut.cells(&part, count), k, number, form, asked, needed),
+        Ok((_, k)) => cell_rows(
+            alloc,
+            &cut.cells(&part, count),
+            k,
+            number,
+            form,
+            asked,
+            needed,
+        ),
         Err(refusal) => Err(refusal),
     }
 }

@@ -9,6 +9,9 @@ use vod_app::{Ended, run};
 use vod_host::{FileStore, HostSink};
 use vod_source::MemDoor;
 
+// The status where standard output failed.
+const SINK_FAILED: u8 = 4;
+
 // The status where memory ran out.
 const NO_MEMORY: u8 = 5;
 
@@ -22,9 +25,16 @@ fn run_words(rt: &HostRuntime) -> Option<u8> {
     let words = words(alloc, rt).ok()?;
     let store = FileStore::new(alloc, rt.clone().ok()?).ok()?;
     let mut door = MemDoor::new(alloc, Vec::new(alloc), Vec::new(alloc)).ok()?;
-    let mut out = HostSink::new(rt.stdout());
-    let mut err = HostSink::new(rt.stderr());
+    let mut out = HostSink::new(alloc, rt.stdout()).ok()?;
+    let mut err = HostSink::new(alloc, rt.stderr()).ok()?;
     let Ended { status, store: _ } = run(alloc, &words, store, &mut door, &mut out, &mut err);
+    // What the sinks hold back is written now.
+    let status = if out.finish().is_err() && matches!(status, 0 | 2) {
+        SINK_FAILED
+    } else {
+        status
+    };
+    let _ = err.finish();
     Some(status)
 }
 
