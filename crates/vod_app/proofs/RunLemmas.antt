@@ -12,10 +12,11 @@ use Rattle.origin_model.specs.Answers.{answer, path_rows}
 use Rattle.origin_model.specs.Outcomes.{AreRequestReads, Due, GainsDue, GainsReads, due_answer, due_rows, get_due, plan_due, run_setup, settings_reads, setup_with}
 use Rattle.origin_model.specs.Reads.{AreReads, for_rows, path_reads}
 use Rattle.origin_model.specs.Requests.{Setup}
-use Rattle.mp4_flat.specs.declared.listed_row.Listed.{Listed}
+use Rattle.vod_types.specs.declared.segments.Listed.{Listed}
 use Rattle.vod_source.specs.Calls.{LogsReads}
 use Rattle.mp4_flat.specs.Flat.{IsFlatAnswer, flat_seen}
-use Rattle.mp4_flat.specs.Listings.{AreListed, every_path, listed_view}
+use Rattle.segment_model.specs.Listing.{listed_view}
+use Rattle.mp4_flat.specs.Listings.{AreListed, every_path}
 use Rattle.vod_app.specs.Runs.{AreSettingsRead, IsAnswerWritten, IsGet, IsPlan, IsPlanWritten, IsRun, IsWritten, refused_outcome}
 use Rattle.vod_source.specs.Stored.{Files, Read}
 use Rattle.vod_source.specs.Told.{told_with, GrewByPrefix}

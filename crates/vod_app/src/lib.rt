@@ -10,8 +10,6 @@ ghost use Rattle.mp4_flat.specs.Listings.{every_path};
 ghost use Rattle.vod_app.specs.Commands.{built_command};
 ghost use Rattle.vod_app.specs.Runs.{IsGet, IsPlan, PlanOutcome, TellsOutcome, outcome_of};
 
-#[cfg(test)]
-mod edit_tests;
 mod ends;
 mod lines;
 #[cfg(test)]

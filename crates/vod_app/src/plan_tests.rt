@@ -1,251 +1,90 @@
-//! Plans of films in memory: each row is a request and its whole text, worked out by hand.
+//! Plans of films in memory, worked out by hand.
 
 use super::*;
-use crate::test_films::{aac, avc, film, films, ran, store_of, track};
+use crate::test_films::{aac, avc, film, ran, store_of, track};
 use std::alloc::Global;
 use std::test::Fail;
 use vod_types::Kind;
 
-// Settings, path and the text that is due: the lines of the plan, or the line of a refusal. A line has the number of a
-// segment, its start and its length in 1/90000 s, and its numbers of video and of audio samples.
-const PLANS: [(&str, &str, &str); 39] = [
-    // A picture has 3600 units. Sync samples are 0 and 625, so cell 1 lasts up to 625 * 3600 = 2250000, where cells 2 and 3
-    // begin; cells 4 and 5 begin at the end, 1250 * 3600 = 4500000.
-    (
-        "align.json",
-        "/local/hls/keys.mp4/index-f1-v1.m3u8",
-        "1 0 2250000 625 0\n3 2250000 2250000 625 0\n",
-    ),
-    // Without `align` five cells of 900000 units, which are 250 pictures.
-    (
-        "-",
-        "/local/hls/keys.mp4/index-f1-v1.m3u8",
-        "1 0 900000 250 0\n2 900000 900000 250 0\n3 1800000 900000 250 0\n4 2700000 900000 250 0\n5 3600000 900000 250 0\n",
-    ),
-    // 300 pictures of 3003 units end at 900900, and none begins at 900000 or later.
-    (
-        "-",
-        "/local/hls/ntsc.mp4/index-f1-v1.m3u8",
-        "1 0 900900 300 0\n",
-    ),
-    // Two samples of 60 seconds: cells 2 to 7 begin at the second one, and cells 8 to 12 at the end.
-    (
-        "-",
-        "/local/hls/slow.mp4/index-f1-a1.m3u8",
-        "1 0 5400000 0 1\n7 5400000 5400000 0 1\n",
-    ),
-    // A sample has 1920 units: 469 are 900480, the 62 of the third line 119040, and 1000 are 1920000.
-    (
-        "-",
-        "/local/hls/aac.mp4/index-a1.m3u8",
-        "1 0 900480 0 469\n2 900480 900480 0 469\n3 1800960 119040 0 62\n",
-    ),
-    // floor(n * 92160000 / 44100) is 900702 for n = 431, 1801404 for 862, and 1880816 for 900.
-    (
-        "-",
-        "/local/hls/cd.mp4/index-a1.m3u8",
-        "1 0 900702 0 431\n2 900702 900702 0 431\n3 1801404 79412 0 38\n",
-    ),
-    // Pictures end at 500 * 3600 = 1800000. Sample 469 of audio is the first at 900000 or later, and all 531 from it on
-    // belong to the last segment.
-    (
-        "-",
-        "/local/hls/av.mp4/index-f1-v1-a1.m3u8",
-        "1 0 900000 250 469\n2 900000 900000 250 531\n",
-    ),
-    (
-        "-",
-        "/local/hls/av.mp4/index-f1-v1.m3u8",
-        "1 0 900000 250 0\n2 900000 900000 250 0\n",
-    ),
-    (
-        "-",
-        "/local/hls/av.mp4/index-f1-a1.m3u8",
-        "1 0 900480 0 469\n2 900480 900480 0 469\n3 1800960 119040 0 62\n",
-    ),
-    // The second audio track: 100 * 1920 = 192000. With the pictures it is over before the second segment.
-    (
-        "-",
-        "/local/hls/av.mp4/tracks/a2/index-a1.m3u8",
-        "1 0 192000 0 100\n",
-    ),
-    (
-        "-",
-        "/local/hls/av.mp4/tracks/v1-a2/index-v1-a1.m3u8",
-        "1 0 900000 250 100\n2 900000 900000 250 0\n",
-    ),
-    // From 5 to 12 seconds: pictures 125 to 299, 175 * 3600 = 630000, and samples 235 to 562 of audio.
-    (
-        "-",
-        "/local/hls/av.mp4/clipFrom/5000/clipTo/12000/index-v1-a1.m3u8",
-        "1 0 630000 175 328\n",
-    ),
-    // The film ends before the clip begins, so there is no cell.
-    ("-", "/local/hls/av.mp4/clipFrom/30000/index-v1.m3u8", ""),
-    // Three pictures that are shown out of order, in decoding order from 0 to 3 * 3600.
-    (
-        "-",
-        "/local/hls/order.mp4/index-v1-a1.m3u8",
-        "1 0 10800 3 2\n",
-    ),
-    // 13 seconds in cells that begin at 0, 2 and 6 seconds.
-    (
-        "start.json",
-        "/local/hls/odd.mp4/index-v1.m3u8",
-        "1 0 180000 50 0\n2 180000 360000 100 0\n3 540000 630000 175 0\n",
-    ),
-    // 5 seconds in cells of 2 seconds: the last is short, or it is joined to the one before. In cells of 4 seconds less than
-    // half a cell is left, which is joined to the first.
-    (
-        "short.json",
-        "/local/hls/b.mp4/index-v1.m3u8",
-        "1 0 180000 50 0\n2 180000 180000 50 0\n3 360000 90000 25 0\n",
-    ),
-    (
-        "long.json",
-        "/local/hls/b.mp4/index-v1.m3u8",
-        "1 0 180000 50 0\n2 180000 270000 75 0\n",
-    ),
-    (
-        "far.json",
-        "/local/hls/b.mp4/index-v1.m3u8",
-        "1 0 450000 125 0\n",
-    ),
-    // The second of two files by one path.
-    (
-        "-",
-        "/local/hls/,a,b,.mp4.urlset/index-f2-v1.m3u8",
-        "1 0 450000 125 0\n",
-    ),
-    // A mapping with a segment duration of its own: 125 pictures are 450000.
-    (
-        "long.json",
-        "/mapped/hls/five.json/index-v1.m3u8",
-        "1 0 450000 125 0\n2 450000 450000 125 0\n3 900000 450000 125 0\n4 1350000 450000 125 0\n",
-    ),
-    // Two clips of 20 seconds, of which the second has 5 seconds of pictures: its cell 4 is empty.
-    (
-        "-",
-        "/mapped/hls/m.json/index-f1-v1.m3u8",
-        "1 0 900000 250 0\n2 900000 900000 250 0\n3 1800000 450000 125 0\n",
-    ),
-    // Each part begins with cells of 2 and of 4 seconds, so its cells begin at 0, 2, 6 and 16 seconds. The second part has
-    // cells 5 to 8, and its 125 pictures are 50 and 75.
-    (
-        "start.json",
-        "/mapped/hls/m.json/index-f1-v1.m3u8",
-        "1 0 180000 50 0\n2 180000 360000 100 0\n3 540000 900000 250 0\n4 1440000 360000 100 0\n5 1800000 180000 50 0\n6 1980000 270000 75 0\n",
-    ),
-    // The same clips in one part: cells begin at 0, 2, 6, 16, 26 and 36 seconds, and the fourth has 100 pictures of the
-    // first file and all of the second, which end at 25 seconds.
-    (
-        "start.json",
-        "/mapped/hls/joined.json/index-v1.m3u8",
-        "1 0 180000 50 0\n2 180000 360000 100 0\n3 540000 900000 250 0\n4 1440000 810000 225 0\n",
-    ),
-    // From 15 to 25 seconds of that: 125 pictures of the first file, and then 125 of the second.
-    (
-        "-",
-        "/mapped/hls/joined.json/clipFrom/15000/clipTo/25000/index-v1.m3u8",
-        "1 0 900000 250 0\n",
-    ),
-    // The first second of two files isn't shown: picture 50 is the first sync sample, at 180000 - 90000, and the rest of
-    // both files is 75 + 125 pictures, 200 * 3600 = 720000.
-    (
-        "-",
-        "/mapped/hls/concat.json/index-f1-v1.m3u8",
-        "1 90000 720000 200 0\n",
-    ),
-    // A part that has no piece keeps its number, and a sequence that has none is refused.
-    (
-        "-",
-        "/mapped/hls/hole.json/index-v1.m3u8",
-        "2 900000 900000 250 0\n",
-    ),
-    (
-        "-",
-        "/mapped/hls/none.json/index-v1.m3u8",
-        "refused 16 NothingSelected\n",
-    ),
-    // Each file of the sequence is needed.
-    (
-        "-",
-        "/mapped/hls/gone.json/index-f1-v1.m3u8",
-        "refused 20 NoFile\n",
-    ),
-    // 100,000 cells of 1 ms, and one more, before any film is read. A film of 120 seconds is cut after it is read.
-    (
-        "-",
-        "/mapped/hls/most.json/index-v1.m3u8",
-        "refused 20 NoFile\n",
-    ),
-    (
-        "-",
-        "/mapped/hls/more.json/index-v1.m3u8",
-        "refused 42 TooManySegments\n",
-    ),
-    (
-        "tiny.json",
-        "/local/hls/slow.mp4/index-a1.m3u8",
-        "refused 42 TooManySegments\n",
-    ),
-    (
-        "-",
-        "/local/hls/ages.mp4/index-a1.m3u8",
-        "refused 31 TrackTooLong\n",
-    ),
-    (
-        "-",
-        "/local/hls/a.mp4/index-f2-v1.m3u8",
-        "refused 15 NoSequence\n",
-    ),
-    (
-        "-",
-        "/local/hls/a.mp4/index-a1.m3u8",
-        "refused 25 NoTrack\n",
-    ),
-    (
-        "bad.json",
-        "/local/hls/a.mp4/index-v1.m3u8",
-        "refused 6 BadSettings\n",
-    ),
-    // Other leaves, and an `index`, which DASH doesn't have.
-    ("-", "/local/hls/a.mp4/master.m3u8", "refused 4 BadPath\n"),
-    (
-        "-",
-        "/local/hls/a.mp4/seg-1-f1-v1.ts",
-        "refused 4 BadPath\n",
-    ),
-    (
-        "-",
-        "/local/dash/a.mp4/fragment-1-f1-v1.m4s",
-        "refused 4 BadPath\n",
-    ),
-    (
-        "-",
-        "/local/dash/a.mp4/index-f1-v1.m3u8",
-        "refused 4 BadPath\n",
-    ),
-];
-
-#[test]
-fn plans_are_those_of_their_rows(rt: HostRuntime) -> Result<(), Fail> {
-    let alloc = rt.alloc();
-    let mut store = films(alloc)?;
-    for (settings, path, due) in &PLANS {
-        let it = ran(alloc, "plan", store, settings, path)?;
-        let (status, out, err) = if due.starts_with("refused") {
-            (2, "", *due)
-        } else {
-            (0, *due, "")
-        };
-        assert_eq!(rt; str::from_utf8(&it.body)?, out, "at {settings} {path}");
-        assert_eq!(rt; str::from_utf8(&it.line)?, err, "at {settings} {path}");
-        assert_eq!(rt; it.status, status, "at {settings} {path}");
-        store = it.store;
-    }
-    Ok(())
-}
+/// Rows of settings, path and what is due: a refusal, or the lines of the plan, each with a semicolon in place of its line feed. A
+/// line has the number of a segment, its start and its length in 1/90000 s, and its numbers of video and of audio samples.
+pub(crate) const PLANS: &str = r"
+# A picture has 3600 units. Sync samples are 0 and 625, so cell 1 lasts up to 625 * 3600 = 2250000, where cells 2 and 3
+# begin; cells 4 and 5 begin at the end, 1250 * 3600 = 4500000.
+align.json /local/hls/keys.mp4/index-f1-v1.m3u8 | 1 0 2250000 625 0;3 2250000 2250000 625 0;
+# Without `align` five cells of 900000 units, which are 250 pictures.
+- /local/hls/keys.mp4/index-f1-v1.m3u8 | 1 0 900000 250 0;2 900000 900000 250 0;3 1800000 900000 250 0;4 2700000 900000 250 0;5 3600000 900000 250 0;
+# 300 pictures of 3003 units end at 900900, and none begins at 900000 or later.
+- /local/hls/ntsc.mp4/index-f1-v1.m3u8 | 1 0 900900 300 0;
+# Two samples of 60 seconds: cells 2 to 7 begin at the second one, and cells 8 to 12 at the end.
+- /local/hls/slow.mp4/index-f1-a1.m3u8 | 1 0 5400000 0 1;7 5400000 5400000 0 1;
+# A sample has 1920 units: 469 are 900480, the 62 of the third line 119040, and 1000 are 1920000.
+- /local/hls/aac.mp4/index-a1.m3u8 | 1 0 900480 0 469;2 900480 900480 0 469;3 1800960 119040 0 62;
+# floor(n * 92160000 / 44100) is 900702 for n = 431, 1801404 for 862, and 1880816 for 900.
+- /local/hls/cd.mp4/index-a1.m3u8 | 1 0 900702 0 431;2 900702 900702 0 431;3 1801404 79412 0 38;
+# Pictures end at 500 * 3600 = 1800000. Sample 469 of audio is the first at 900000 or later, and all 531 from it on belong to
+# the last segment.
+- /local/hls/av.mp4/index-f1-v1-a1.m3u8 | 1 0 900000 250 469;2 900000 900000 250 531;
+- /local/hls/av.mp4/index-f1-v1.m3u8 | 1 0 900000 250 0;2 900000 900000 250 0;
+- /local/hls/av.mp4/index-f1-a1.m3u8 | 1 0 900480 0 469;2 900480 900480 0 469;3 1800960 119040 0 62;
+# The second audio track: 100 * 1920 = 192000. With the pictures it is over before the second segment.
+- /local/hls/av.mp4/tracks/a2/index-a1.m3u8 | 1 0 192000 0 100;
+- /local/hls/av.mp4/tracks/v1-a2/index-v1-a1.m3u8 | 1 0 900000 250 100;2 900000 900000 250 0;
+# From 5 to 12 seconds: pictures 125 to 299, 175 * 3600 = 630000, and samples 235 to 562 of audio.
+- /local/hls/av.mp4/clipFrom/5000/clipTo/12000/index-v1-a1.m3u8 | 1 0 630000 175 328;
+# The film ends before the clip begins, so there is no cell.
+- /local/hls/av.mp4/clipFrom/30000/index-v1.m3u8 | nothing
+# Three pictures that are shown out of order, in decoding order from 0 to 3 * 3600.
+- /local/hls/order.mp4/index-v1-a1.m3u8 | 1 0 10800 3 2;
+# 13 seconds in cells that begin at 0, 2 and 6 seconds.
+start.json /local/hls/odd.mp4/index-v1.m3u8 | 1 0 180000 50 0;2 180000 360000 100 0;3 540000 630000 175 0;
+# 5 seconds in cells of 2 seconds: the last is short, or it is joined to the one before. In cells of 4 seconds less than half
+# a cell is left, which is joined to the first.
+short.json /local/hls/b.mp4/index-v1.m3u8 | 1 0 180000 50 0;2 180000 180000 50 0;3 360000 90000 25 0;
+long.json /local/hls/b.mp4/index-v1.m3u8 | 1 0 180000 50 0;2 180000 270000 75 0;
+far.json /local/hls/b.mp4/index-v1.m3u8 | 1 0 450000 125 0;
+# The second of two files by one path.
+- /local/hls/,a,b,.mp4.urlset/index-f2-v1.m3u8 | 1 0 450000 125 0;
+# A mapping with a segment duration of its own: 125 pictures are 450000.
+long.json /mapped/hls/five.json/index-v1.m3u8 | 1 0 450000 125 0;2 450000 450000 125 0;3 900000 450000 125 0;4 1350000 450000 125 0;
+# Two clips of 20 seconds, of which the second has 5 seconds of pictures: its cell 4 is empty.
+- /mapped/hls/m.json/index-f1-v1.m3u8 | 1 0 900000 250 0;2 900000 900000 250 0;3 1800000 450000 125 0;
+# Each part begins with cells of 2 and of 4 seconds, so its cells begin at 0, 2, 6 and 16 seconds. The second part has cells
+# 5 to 8, and its 125 pictures are 50 and 75.
+start.json /mapped/hls/m.json/index-f1-v1.m3u8 | 1 0 180000 50 0;2 180000 360000 100 0;3 540000 900000 250 0;4 1440000 360000 100 0;5 1800000 180000 50 0;6 1980000 270000 75 0;
+# The same clips in one part: cells begin at 0, 2, 6, 16, 26 and 36 seconds, and the fourth has 100 pictures of the first
+# file and all of the second, which end at 25 seconds.
+start.json /mapped/hls/joined.json/index-v1.m3u8 | 1 0 180000 50 0;2 180000 360000 100 0;3 540000 900000 250 0;4 1440000 810000 225 0;
+# From 15 to 25 seconds of that: 125 pictures of the first file, and then 125 of the second.
+- /mapped/hls/joined.json/clipFrom/15000/clipTo/25000/index-v1.m3u8 | 1 0 900000 250 0;
+# The first second of two files isn't shown: picture 50 is the first sync sample, at 180000 - 90000, and the rest of both
+# files is 75 + 125 pictures, 200 * 3600 = 720000.
+- /mapped/hls/concat.json/index-f1-v1.m3u8 | 1 90000 720000 200 0;
+# A part that has no piece keeps its number, and a sequence that has none is refused.
+- /mapped/hls/hole.json/index-v1.m3u8 | 2 900000 900000 250 0;
+- /mapped/hls/none.json/index-v1.m3u8 | refused 16 NothingSelected
+# Each file of the sequence is needed.
+- /mapped/hls/gone.json/index-f1-v1.m3u8 | refused 20 NoFile
+# 100,000 cells of 1 ms, and one more, before any film is read. A film of 120 seconds is cut after it is read.
+- /mapped/hls/most.json/index-v1.m3u8 | refused 20 NoFile
+- /mapped/hls/more.json/index-v1.m3u8 | refused 42 TooManySegments
+tiny.json /local/hls/slow.mp4/index-a1.m3u8 | refused 42 TooManySegments
+- /local/hls/ages.mp4/index-a1.m3u8 | refused 31 TrackTooLong
+- /local/hls/a.mp4/index-f2-v1.m3u8 | refused 15 NoSequence
+- /local/hls/a.mp4/index-a1.m3u8 | refused 25 NoTrack
+bad.json /local/hls/a.mp4/index-v1.m3u8 | refused 6 BadSettings
+# Other leaves, and an `index`, which DASH doesn't have.
+- /local/hls/a.mp4/master.m3u8 | refused 4 BadPath
+- /local/hls/a.mp4/seg-1-f1-v1.ts | refused 4 BadPath
+- /local/dash/a.mp4/fragment-1-f1-v1.m4s | refused 4 BadPath
+- /local/dash/a.mp4/index-f1-v1.m3u8 | refused 4 BadPath
+# A file of the path, and one of settings, that aren't there.
+- /local/hls/gone.mp4/index-v1-a1.m3u8 | refused 20 NoFile
+absent.json /local/hls/a.mp4/index-v1.m3u8 | refused 20 NoFile
+# 469 samples that wait a second: sample i stands at 90000 + 1920 * i, so the 422nd is the first at 900000 or later, and they end
+# at 990480.
+- /local/hls/wait.mp4/index-a1.m3u8 | 1 90000 810240 0 422;2 900240 90240 0 47;
+";
 
 // An hour of 25 pictures a second, of which each 50th is a sync sample, and of audio at 48000: 168750 * 1024 = 3600 * 48000.
 fn hour(alloc: Global) -> Result<Vec<u8>, Fail> {
@@ -284,13 +123,8 @@ fn counts(plan: &str) -> Result<(u64, u64), Fail> {
 fn hour_has_a_line_for_each_ten_seconds(rt: HostRuntime) -> Result<(), Fail> {
     let alloc = rt.alloc();
     let store = store_of(alloc, "/r/hour.mp4", hour(alloc)?, Vec::new(alloc))?;
-    let it = ran(
-        alloc,
-        "plan",
-        store,
-        "-",
-        "/local/hls/hour.mp4/index-f1-v1-a1.m3u8",
-    )?;
+    let words = "plan /r - /local/hls/hour.mp4/index-f1-v1-a1.m3u8";
+    let it = ran(alloc, words, store)?;
     assert_eq!(rt; it.status, 0);
     let plan = str::from_utf8(&it.body)?;
     assert!(rt; plan.starts_with("1 0 900000 250 469\n2 900000 900000 250 469\n"));

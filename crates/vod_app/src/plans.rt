@@ -4,7 +4,8 @@ ghost use Rattle.std.specs.Prelude.{◌≡◌, ◌≢◌, ◌≤◌, ◌++◌, N
 ghost use Rattle.list_model.specs.Command.{no_memory, plan_line, plan_text, sink_failed, store_failed, usage};
 ghost use Rattle.vod_source.specs.Causes.{Rose};
 ghost use Rattle.origin_model.specs.Outcomes.{GainsDue, setup_with};
-ghost use Rattle.mp4_flat.specs.Listings.{every_path, listed_view};
+ghost use Rattle.segment_model.specs.Listing.{listed_view};
+ghost use Rattle.mp4_flat.specs.Listings.{every_path};
 ghost use Rattle.vod_app.specs.Commands.{requested};
 ghost use Rattle.vod_app.specs.Runs.{outcome_of, IsPlan, IsPlanWritten};
 

@@ -1,12 +1,13 @@
 //! Segments of films in memory: each row is a request and what is due, worked out by hand.
 
 use super::*;
+use crate::plan_tests::PLANS;
 use crate::test_films::{entry, film, films, out_of_order, ran, sound, store_of, two_samples};
 use std::alloc::Global;
 use std::process::Abort;
 use std::test::Fail;
 use vod_gen::TrackSpec;
-use vod_source::{HoleStore, Logged};
+use vod_source::{HoleStore, Logged, MemStore};
 use vod_types::{Kind, Name};
 
 // The initialization segment of an audio track of AAC-LC at 48000 Hz with two channels, box by box.
@@ -37,7 +38,7 @@ const INIT_SEGMENT: &[u8; 580] = b"\
     ";
 
 // The fragment of two samples of 10 and 20 bytes at 48000 with delta 1024, box by box.
-pub(crate) const TWO_SAMPLES: &[u8; 182] = b"\
+const TWO_SAMPLES: &[u8; 182] = b"\
     \x00\x00\x00\x18stypmsdh\x00\x00\x00\x00msdhiso6\
     \x00\x00\x00\x78moof\x00\x00\x00\x10mfhd\x00\x00\x00\x00\x00\x00\x00\x01\
     \x00\x00\x00\x60traf\x00\x00\x00\x10tfhd\x00\x02\x00\x00\x00\x00\x00\x02\
@@ -66,6 +67,30 @@ const OUT_OF_ORDER: &[u8; 287] = b"\
     \x00\x00\x07\x80\x00\x00\x00\x02\x02\x00\x00\x00\x00\x00\x00\x00\
     \x00\x00\x07\x80\x00\x00\x00\x03\x02\x00\x00\x00\x00\x00\x00\x00\
     \x00\x00\x00\x1fmdatIIIIIPPPPPPBBBBBBBaabbb\
+    ";
+
+// The fragment of two samples at 48000 of which the first isn't shown: the second has 20 bytes, and begins at 0.
+const SECOND_SAMPLE: &[u8; 156] = b"\
+    \x00\x00\x00\x18stypmsdh\x00\x00\x00\x00msdhiso6\
+    \x00\x00\x00\x68moof\x00\x00\x00\x10mfhd\x00\x00\x00\x00\x00\x00\x00\x01\
+    \x00\x00\x00\x50traf\x00\x00\x00\x10tfhd\x00\x02\x00\x00\x00\x00\x00\x02\
+    \x00\x00\x00\x14tfdt\x01\x00\x00\x00\x00\x00\x00\x00\x00\x00\x00\x00\
+    \x00\x00\x00\x24trun\x01\x00\x0f\x01\x00\x00\x00\x01\x00\x00\x00\x70\
+    \x00\x00\x07\x80\x00\x00\x00\x14\x02\x00\x00\x00\x00\x00\x00\x00\
+    \x00\x00\x00\x1cmdatefghijklmnopqrstuvwx\
+    ";
+
+// The fragment of three pictures at 25 with offsets of 2, of which an edit takes 2: all offsets are 0.
+const SHOWN_AT_ONCE: &[u8; 186] = b"\
+    \x00\x00\x00\x18stypmsdh\x00\x00\x00\x00msdhiso6\
+    \x00\x00\x00\x88moof\x00\x00\x00\x10mfhd\x00\x00\x00\x00\x00\x00\x00\x01\
+    \x00\x00\x00\x70traf\x00\x00\x00\x10tfhd\x00\x02\x00\x00\x00\x00\x00\x01\
+    \x00\x00\x00\x14tfdt\x01\x00\x00\x00\x00\x00\x00\x00\x00\x00\x00\x00\
+    \x00\x00\x00\x44trun\x01\x00\x0f\x01\x00\x00\x00\x03\x00\x00\x00\x90\
+    \x00\x00\x0e\x10\x00\x00\x00\x05\x02\x00\x00\x00\x00\x00\x00\x00\
+    \x00\x00\x0e\x10\x00\x00\x00\x06\x01\x01\x00\x00\x00\x00\x00\x00\
+    \x00\x00\x0e\x10\x00\x00\x00\x07\x01\x01\x00\x00\x00\x00\x00\x00\
+    \x00\x00\x00\x1amdatIIIIIPPPPPPBBBBBBB\
     ";
 
 // The playlist of 300 pictures of 3003 units, which last 10.01 seconds.
@@ -106,12 +131,8 @@ fn run_of(alloc: Global, body: &[u8], at: usize) -> Result<String, Fail> {
     Ok(text)
 }
 
-// The number of a fragment and its runs, each behind a semicolon, or the length of an initialization segment or of a
-// transport stream.
-fn body_of(alloc: Global, body: &[u8]) -> Result<String, Fail> {
-    if body.starts_with(b"G") {
-        return Ok(format!(in alloc; "stream {}", body.len())?);
-    }
+// The number of a fragment and its runs, each behind a semicolon, or the length of an initialization segment.
+fn boxes_of(alloc: Global, body: &[u8]) -> Result<String, Fail> {
     if behind(body, 4).starts_with(b"ftyp") {
         return Ok(format!(in alloc; "init {}", body.len())?);
     }
@@ -132,16 +153,57 @@ fn body_of(alloc: Global, body: &[u8]) -> Result<String, Fail> {
     Ok(text)
 }
 
-// The line of a refusal or a failure without its line feed, or what a body holds.
+// The lines of a text, each with a semicolon in place of its line feed.
+fn lines_of(alloc: Global, text: &str) -> Result<String, Fail> {
+    let mut lines = String::new(alloc);
+    for c in text.chars() {
+        lines.push(if c == '\n' { ';' } else { c })?;
+    }
+    Ok(lines)
+}
+
+// What a body holds: a plan, a transport stream of a length, or boxes.
+fn body_of(alloc: Global, body: &[u8]) -> Result<String, Fail> {
+    match body {
+        [] => Ok(String::from_str(alloc, "nothing")?),
+        [b'0'..=b'9', ..] => lines_of(alloc, str::from_utf8(body)?),
+        [b'G', ..] => Ok(format!(in alloc; "stream {}", body.len())?),
+        _ => boxes_of(alloc, body),
+    }
+}
+
+// The line of a refusal or a failure without its line feed, the usage line as `usage`, or what a body holds.
 fn told(alloc: Global, status: u8, body: &[u8], line: &[u8]) -> Result<String, Fail> {
     match (status, line) {
         (0, []) => body_of(alloc, body),
+        (1, line) if body.is_empty() && line == USAGE.as_bytes() => {
+            Ok(String::from_str(alloc, "usage")?)
+        }
         (2, [text @ .., b'\n']) if body.is_empty() => {
             Ok(String::from_str(alloc, str::from_utf8(text)?)?)
         }
         _ => Ok(format!(in alloc; "status {status}, {} bytes", body.len())?),
     }
 }
+
+const USAGE: &str =
+    "usage: vodpack get|reads|plan|pack ROOT SETTINGS PATH, serve|turns ROOT SETTINGS ADDR COUNT, rehearse N\n";
+
+// Rows of words that spell no command that is built. A single space parts two words, of which one may be empty.
+const WORDS: &str = r"
+ | usage
+get | usage
+--help | usage
+get /r -  | usage
+get  - /local/dash/a.mp4/fragment-1-a1.m4s | usage
+get /r - /local/dash/a.mp4/fragment-1-a1.m4s /local/dash/a.mp4/fragment-1-a1.m4s | usage
+fetch /r - /local/dash/a.mp4/fragment-1-a1.m4s | usage
+plan /r - | usage
+plan /r  /local/hls/a.mp4/index-v1-a1.m3u8 | usage
+Plan /r - /local/hls/a.mp4/index-v1-a1.m3u8 | usage
+pack /r - /local/hls/a.mp4/index-v1-a1.m3u8 | usage
+rehearse 1 | usage
+";
 
 // Rows of settings, path and what is due: a refusal, the length of an initialization segment, or a fragment's number and
 // for each track its id, the two halves of the time of its first sample, how many samples it has, and the numbers of the
@@ -278,27 +340,44 @@ long.json /mapped/dash/five.json/fragment-5-v1.m4s | refused 40 NoSegment
 - /local/hls/a.mp4/iframes-f1-v1.m3u8 | refused 14 Unsupported
 - /local/hls/a.mp4/iframe-1-1-f1-v1.ts | refused 14 Unsupported
 - /local/dash/a.mp4/clip-f1-v1.mp4 | refused 14 Unsupported
+long.json /local/hls/a.mp4/master.m3u8 | refused 14 Unsupported
+# Names that aren't spelled as they are printed, and settings that are empty or aren't there.
+- /local/hls/a.mp4/seg-01-f1-a1.ts | refused 4 BadPath
+- /local/hls/a.mp4/index-f1-a1-v1.m3u8 | refused 4 BadPath
+blank.json /local/dash/a.mp4/fragment-1-a1.m4s | refused 6 BadSettings
+absent.json /local/dash/a.mp4/fragment-1-a1.m4s | refused 20 NoFile
+# An edit list whose media time is -2.
+- /local/dash/broken.mp4/fragment-1-a1.m4s | refused 24 BadTable
 ";
 
-#[test]
-fn requests_are_answered_by_their_rows(rt: HostRuntime) -> Result<(), Fail> {
-    let alloc = rt.alloc();
-    let mut store = films(alloc)?;
-    let mut rows = Vec::new(alloc);
-    for row in ROWS.lines() {
+// Runs the words of each row of a table, behind the first words, and compares what is told of it with what is due.
+fn check_rows(
+    rt: &impl Abort,
+    alloc: Global,
+    first: MemStore,
+    words: &str,
+    rows: &str,
+) -> Result<MemStore, Fail> {
+    let mut store = first;
+    for row in rows.lines() {
         if !row.is_empty() && !row.starts_with('#') {
-            rows.push(row)?;
+            let (rest, due) = row.split_once(" | ").ok_or("a row without an answer")?;
+            let asked = format!(in alloc; "{words}{rest}")?;
+            let it = ran(alloc, asked.as_str(), store)?;
+            let text = told(alloc, it.status, &it.body, &it.line)?;
+            assert_eq!(rt; text.as_str(), due, "at {words}{rest}");
+            store = it.store;
         }
     }
-    assert_eq!(rt; rows.len(), 108);
-    for row in &rows {
-        let (asked, due) = row.split_once(" | ").ok_or("a row without an answer")?;
-        let (settings, path) = asked.split_once(' ').ok_or("a row without a path")?;
-        let it = ran(alloc, "get", store, settings, path)?;
-        let text = told(alloc, it.status, &it.body, &it.line)?;
-        assert_eq!(rt; text.as_str(), due, "at {settings} {path}");
-        store = it.store;
-    }
+    Ok(store)
+}
+
+#[test]
+fn words_and_requests_are_answered_by_their_rows(rt: HostRuntime) -> Result<(), Fail> {
+    let alloc = rt.alloc();
+    let store = check_rows(&rt, alloc, films(alloc)?, "", WORDS)?;
+    let store = check_rows(&rt, alloc, store, "get /r ", ROWS)?;
+    check_rows(&rt, alloc, store, "plan /r ", PLANS)?;
     Ok(())
 }
 
@@ -332,17 +411,28 @@ type Damage = (&'static [u8; 4], usize, &'static [u8], &'static str);
 #[test]
 fn bodies_are_those_of_the_standard(rt: HostRuntime) -> Result<(), Fail> {
     let alloc = rt.alloc();
-    let rows: [(&str, &[u8]); 4] = [
-        ("/local/dash/two.mp4/init-c1-f1-a1.mp4", INIT_SEGMENT),
-        ("/local/dash/two.mp4/fragment-1-a1.m4s", TWO_SAMPLES),
-        ("/local/dash/order.mp4/fragment-1-v1-a1.m4s", OUT_OF_ORDER),
-        ("/local/hls/ntsc.mp4/index-f1-v1.m3u8", PLAYLIST),
+    let rows: [(&str, &[u8]); 8] = [
+        ("- /local/dash/two.mp4/init-c1-f1-a1.mp4", INIT_SEGMENT),
+        ("- /local/dash/two.mp4/fragment-1-a1.m4s", TWO_SAMPLES),
+        ("- /local/dash/order.mp4/fragment-1-v1-a1.m4s", OUT_OF_ORDER),
+        ("- /local/hls/ntsc.mp4/index-f1-v1.m3u8", PLAYLIST),
+        ("- /local/dash/skip.mp4/fragment-1-a1.m4s", SECOND_SAMPLE),
+        ("- /local/dash/late.mp4/fragment-1-v1.m4s", SHOWN_AT_ONCE),
+        (
+            "ignore.json /local/dash/skip.mp4/fragment-1-a1.m4s",
+            TWO_SAMPLES,
+        ),
+        (
+            "ignore.json /local/dash/broken.mp4/fragment-1-a1.m4s",
+            TWO_SAMPLES,
+        ),
     ];
     let mut store = films(alloc)?;
-    for (path, due) in rows {
-        let it = ran(alloc, "get", store, "-", path)?;
-        assert_eq!(rt; it.status, 0);
-        assert_eq!(rt; it.body.as_slice(), due, "at {path}");
+    for (asked, due) in rows {
+        let words = format!(in alloc; "get /r {asked}")?;
+        let it = ran(alloc, words.as_str(), store)?;
+        assert_eq!(rt; it.body.as_slice(), due, "at {asked}");
+        assert!(rt; it.status == 0 && it.line.is_empty(), "at {asked}");
         store = it.store;
     }
     Ok(())
@@ -398,19 +488,22 @@ const VIDEO_DAMAGES: [Damage; 7] = [
     (b"avcC", 4, b"free", "refused 26 Codec"),
 ];
 
+// Asks for the audio of a film of its own.
+const AUDIO_WORDS: &str = "get /r - /local/dash/f.mp4/fragment-1-a1.m4s";
+
 // Asks for a fragment of a film with each of these damages.
 fn check_damages(
     rt: &impl Abort,
     alloc: Global,
     film: &[u8],
-    path: &str,
+    words: &str,
     damages: &[Damage],
 ) -> Result<(), Fail> {
     for damage in damages {
         let (kind, place, _, due) = *damage;
         let bytes = damaged(alloc, film, *damage)?;
         let store = store_of(alloc, "/r/f.mp4", bytes, Vec::new(alloc))?;
-        let it = ran(alloc, "get", store, "-", path)?;
+        let it = ran(alloc, words, store)?;
         let line = str::from_utf8(&it.line)?;
         assert_eq!(rt; line.trim_end(), due, "at {kind:?} {place}");
         assert_eq!(rt; it.status, if due.is_empty() { 0 } else { 2 });
@@ -422,19 +515,13 @@ fn check_damages(
 fn damaged_films_are_refused(rt: HostRuntime) -> Result<(), Fail> {
     let alloc = rt.alloc();
     let film = two_samples(alloc)?;
-    check_damages(
-        &rt,
-        alloc,
-        &film,
-        "/local/dash/f.mp4/fragment-1-a1.m4s",
-        &AUDIO_DAMAGES,
-    )?;
+    check_damages(&rt, alloc, &film, AUDIO_WORDS, &AUDIO_DAMAGES)?;
     let film = out_of_order(alloc)?;
     check_damages(
         &rt,
         alloc,
         &film,
-        "/local/dash/f.mp4/fragment-1-v1.m4s",
+        "get /r - /local/dash/f.mp4/fragment-1-v1.m4s",
         &VIDEO_DAMAGES,
     )
 }
@@ -463,7 +550,6 @@ const LARGE: Damage = (b"stsz", 12, b"\x01\0\0\0", "refused 43 SegmentTooLarge")
 #[test]
 fn limits_are_kept(rt: HostRuntime) -> Result<(), Fail> {
     let alloc = rt.alloc();
-    let path = "/local/dash/f.mp4/fragment-1-a1.m4s";
     // 128 samples of 2^24 bytes are 2147483648 bytes, and a `moov` of 2^25 + 1 is too long.
     let large = damaged(alloc, &silence(alloc, 128, 1024)?, LARGE)?;
     let rows = [
@@ -476,14 +562,14 @@ fn limits_are_kept(rt: HostRuntime) -> Result<(), Fail> {
     for (first, due) in rows {
         assert!(rt; first.len() < 3_000_000_000);
         let store = HoleStore::new(alloc, Name::new(alloc, "/r/f.mp4")?, first, 3_000_000_000)?;
-        let it = ran(alloc, "get", store, "-", path)?;
+        let it = ran(alloc, AUDIO_WORDS, store)?;
         assert_eq!(rt; str::from_utf8(&it.line)?.trim_end(), due);
     }
     // With 200,000 samples `moof` has 24 + 64 + 3,200,000 bytes, and one more is too many.
     for (count, status, length) in [(200_000, 0, 3_200_120), (200_001, 2, 0)] {
         let film = silence(alloc, count, 1)?;
         let store = store_of(alloc, "/r/f.mp4", film, Vec::new(alloc))?;
-        let it = ran(alloc, "get", store, "-", path)?;
+        let it = ran(alloc, AUDIO_WORDS, store)?;
         assert_eq!(rt; (it.status, it.body.len()), (status, length));
         assert!(rt; status == 0 || it.line.as_slice() == b"refused 44 TooManySamples\n".as_slice());
     }
@@ -493,20 +579,19 @@ fn limits_are_kept(rt: HostRuntime) -> Result<(), Fail> {
 #[test]
 fn failing_calls_end_the_run_before_a_byte(rt: HostRuntime) -> Result<(), Fail> {
     let alloc = rt.alloc();
-    // One call for the size, two for headers, one for the movie, and two for samples.
-    for call in 1..=6 {
+    let words = "get /r s.json /local/dash/f.mp4/fragment-1-a1.m4s";
+    // Two calls for the settings, one for the size, two for headers, one for the movie, and two for samples.
+    for call in 1..=8 {
         let fails = vec![in alloc; call]?;
         let store = store_of(alloc, "/r/f.mp4", two_samples(alloc)?, fails)?;
-        let it = ran(
-            alloc,
-            "get",
-            store,
-            "-",
-            "/local/dash/f.mp4/fragment-1-a1.m4s",
-        )?;
+        let it = ran(alloc, words, store)?;
         assert!(rt; it.status == 3 && it.body.is_empty(), "at call {call}");
         assert_eq!(rt; it.line.as_slice(), b"store failed\n".as_slice());
     }
+    // A form that isn't built asks for the settings alone.
+    let store = store_of(alloc, "/r/f.mp4", Vec::new(alloc), vec![in alloc; 3]?)?;
+    let it = ran(alloc, "get /r s.json /local/hls/f.mp4/master.m3u8", store)?;
+    assert_eq!(rt; it.line.as_slice(), b"refused 14 Unsupported\n".as_slice());
     Ok(())
 }
 
@@ -533,19 +618,14 @@ fn metadata_and_samples_alone_are_read(rt: HostRuntime) -> Result<(), Fail> {
     let alloc = rt.alloc();
     let film = movie_at_the_end(alloc)?;
     let store = Logged::new(alloc, store_of(alloc, "/r/c.mp4", film, Vec::new(alloc))?);
-    let it = ran(
-        alloc,
-        "get",
-        store,
-        "-",
-        "/local/dash/c.mp4/fragment-1-a1.m4s",
-    )?;
-    assert_eq!(rt; it.status, 0);
+    let words = "get /r - /local/dash/c.mp4/fragment-1-a1.m4s";
+    let it = ran(alloc, words, store)?;
     assert!(rt; it.body.ends_with(b"efghijklmnopqrstuvwx"));
-    let reads = [(0, 16), (32, 16), (100_032, 16), (100_032, 1_000), (40, 20)];
-    assert_eq!(rt; it.store.entries().len(), reads.len());
-    for (entry, read) in it.store.entries().iter().zip(&reads) {
-        assert_eq!(rt; (entry.at, entry.n), *read);
+    let mut reads = String::new(alloc);
+    for entry in it.store.entries() {
+        let read = format!(in alloc; "{} {};", entry.at, entry.n)?;
+        reads.push_str(read.as_str())?;
     }
+    assert_eq!(rt; reads.as_str(), "0 16;32 16;100032 16;100032 1000;40 20;");
     Ok(())
 }

@@ -158,7 +158,9 @@ fn three_tracks(alloc: Global) -> Result<Vec<u8>, Fail> {
 }
 
 // The texts that the requests name: settings, and mappings below `/r`.
-const TEXTS: [(&str, &str); 22] = [
+const TEXTS: [(&str, &str); 24] = [
+    ("blank.json", ""),
+    ("ignore.json", r#"{"ignore_edits":true}"#),
     ("align.json", r#"{"align":true}"#),
     ("start.json", r#"{"bootstrap":[2000,4000]}"#),
     ("short.json", r#"{"segment_ms":2000}"#),
@@ -290,44 +292,67 @@ pub(crate) fn films(alloc: Global) -> Result<MemStore, Fail> {
     add(alloc, &mut files, "/r/one.mp4", one_sample(alloc)?)?;
     add(alloc, &mut files, "/r/two.mp4", two_samples(alloc)?)?;
     add(alloc, &mut files, "/r/order.mp4", out_of_order(alloc)?)?;
+    add_all_edited(alloc, &mut files)?;
     let mut wide = b"{}".to_vec(alloc)?;
     wide.resize(1_048_577, b' ')?;
     add(alloc, &mut files, "/r/wide.json", wide)?;
     Ok(MemStore::new(files, Vec::new(alloc)))
 }
 
-/// Films with edit lists, below `/r`: one that skips 1024 ticks of two samples, one that skips two ticks of pictures that are
-/// shown two ticks late, one that waits a second, and one whose list is broken; and settings with which they aren't looked at.
-pub(crate) fn edited_films(alloc: Global) -> Result<MemStore, Fail> {
-    let two = two_samples(alloc)?;
-    let late = film(
-        alloc,
-        vec![in alloc; pictures(alloc, vec![in alloc; (3, 2)]?)?]?,
-    )?;
-    let long = film_of(alloc, Kind::Audio, aac(469, 0))?;
-    let skip = with_edits(alloc, &two, Kind::Audio, &[(0, 1024)])?;
-    let shown = with_edits(alloc, &late, Kind::Video, &[(0, 2)])?;
-    let wait = with_edits(alloc, &long, Kind::Audio, &[(1000, -1), (0, 0)])?;
-    let broken = with_edits(alloc, &two, Kind::Audio, &[(0, -2)])?;
-    let ignore = br#"{"ignore_edits":true}"#.to_vec(alloc)?;
-    let mut files = Vec::new(alloc);
-    add(alloc, &mut files, "ignore.json", ignore)?;
-    add(alloc, &mut files, "/r/skip.mp4", skip)?;
-    add(alloc, &mut files, "/r/shown.mp4", shown)?;
-    add(alloc, &mut files, "/r/wait.mp4", wait)?;
-    add(alloc, &mut files, "/r/broken.mp4", broken)?;
-    Ok(MemStore::new(files, Vec::new(alloc)))
+// Adds a film with edit lists.
+fn add_edited(
+    alloc: Global,
+    files: &mut Vec<(Name, Vec<u8>)>,
+    name: &str,
+    film: &[u8],
+    edits: (Kind, &[(u32, i32)]),
+) -> Result<(), Fail> {
+    let edited = with_edits(alloc, film, edits.0, edits.1)?;
+    add(alloc, files, name, edited)
 }
 
-/// The store of one file, whose calls of these numbers fail.
+// Adds films with edit lists: one that skips 1024 ticks of two samples, one whose list is broken, one that skips two ticks of
+// pictures that are shown two ticks late, and one that waits a second.
+fn add_all_edited(alloc: Global, files: &mut Vec<(Name, Vec<u8>)>) -> Result<(), Fail> {
+    let two = two_samples(alloc)?;
+    add_edited(
+        alloc,
+        files,
+        "/r/skip.mp4",
+        &two,
+        (Kind::Audio, &[(0, 1024)]),
+    )?;
+    add_edited(
+        alloc,
+        files,
+        "/r/broken.mp4",
+        &two,
+        (Kind::Audio, &[(0, -2)]),
+    )?;
+    let offsets = vec![in alloc; (3, 2)]?;
+    let late = film(alloc, vec![in alloc; pictures(alloc, offsets)?]?)?;
+    add_edited(alloc, files, "/r/late.mp4", &late, (Kind::Video, &[(0, 2)]))?;
+    let long = film_of(alloc, Kind::Audio, aac(469, 0))?;
+    add_edited(
+        alloc,
+        files,
+        "/r/wait.mp4",
+        &long,
+        (Kind::Audio, &[(1000, -1), (0, 0)]),
+    )
+}
+
+/// The store of one file, and of the settings `s.json`, whose calls of these numbers fail.
 pub(crate) fn store_of(
     alloc: Global,
     name: &str,
     bytes: Vec<u8>,
     fails: Vec<u64>,
 ) -> Result<MemStore, Fail> {
-    let file = (Name::new(alloc, name)?, bytes);
-    Ok(MemStore::new(vec![in alloc; file]?, fails))
+    let mut files = Vec::new(alloc);
+    add(alloc, &mut files, "s.json", b"{}".to_vec(alloc)?)?;
+    add(alloc, &mut files, name, bytes)?;
+    Ok(MemStore::new(files, fails))
 }
 
 /// What a run came to: its store, its status, what it wrote, and the line that tells its end.
@@ -339,22 +364,18 @@ pub(crate) struct Run<S: Store> {
     pub(crate) line: Vec<u8>,
 }
 
-/// Runs `COMMAND /r SETTINGS PATH` over a store.
-pub(crate) fn ran<S: Store + Drop>(
-    alloc: Global,
-    command: &str,
-    store: S,
-    settings: &str,
-    path: &str,
-) -> Result<Run<S>, Fail> {
-    let mut words = Vec::new(alloc);
-    for word in [command, "/r", settings, path] {
-        words.push(String::from_str(alloc, word)?)?;
+/// Runs words, which single spaces part, over a store. An empty text has no word.
+pub(crate) fn ran<S: Store + Drop>(alloc: Global, words: &str, store: S) -> Result<Run<S>, Fail> {
+    let mut spelled = Vec::new(alloc);
+    if !words.is_empty() {
+        for word in words.split(' ') {
+            spelled.push(String::from_str(alloc, word)?)?;
+        }
     }
     let mut door = MemDoor::new(alloc, Vec::new(alloc), Vec::new(alloc))?;
     let mut out = VecSink::new(Vec::new(alloc));
     let mut err = VecSink::new(Vec::new(alloc));
-    let Ended { status, store } = run(alloc, &words, store, &mut door, &mut out, &mut err);
+    let Ended { status, store } = run(alloc, &spelled, store, &mut door, &mut out, &mut err);
     Ok(Run {
         store,
         status,

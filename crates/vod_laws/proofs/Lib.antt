@@ -1,0 +1,3 @@
+mod AskedParts
+mod EverySample
+mod FewReads
