@@ -11,4 +11,3 @@ pub use head::header;
 pub use list::{BoxRef, Boxes};
 pub use mp4_model::BoxHead;
 pub use payload::children;
-

@@ -16,8 +16,7 @@ ghost use Rattle.segment_model.specs.Listing.{listed_view};
 ghost use Rattle.flat_lists.specs.Listings.{HasPart};
 ghost use Rattle.mp4_flat.specs.Listings.{AreListed, ask_rows as ask_rows_of, every_path, index_turns};
 
-use flat_lists::{Asking, asking_of};
-use flat_lists::timeline_rows;
+use flat_lists::{Asking, asking_of, timeline_rows};
 use flat_segments::Cut;
 use std::alloc::Global;
 use vod_source::Store;

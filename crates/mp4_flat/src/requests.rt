@@ -13,10 +13,10 @@ ghost use Rattle.flat_lists.specs.Asked.{asking_view, setup_of};
 ghost use Rattle.mp4_flat.specs.Built.{built_paths, is_built_leaf};
 ghost use Rattle.mp4_flat.specs.Flat.{IsFlatAnswer, IsAskAnswer, IsLeafAnswer};
 
-use flat_lists::{Asking, asking_of};
 use crate::init::init_of_part;
 use crate::listing::sequence_rows;
 use crate::playlist::playlist_of;
+use flat_lists::{Asking, asking_of};
 use flat_segments::{Cut, FlatBody, segment_body, segment_rows};
 use std::alloc::Global;
 use vod_source::Store;

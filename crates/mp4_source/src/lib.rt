@@ -8,4 +8,3 @@ mod seek;
 pub use movie::read;
 pub use mp4_model::MoviePlace;
 pub use place::find;
-

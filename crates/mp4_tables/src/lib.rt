@@ -14,4 +14,3 @@ pub use samples::{Stss, Stsz};
 pub use tables::Tables;
 pub use times::{Ctts, Stts};
 pub use validity::valid;
-

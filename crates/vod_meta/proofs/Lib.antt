@@ -1,0 +1,6 @@
+pub mod FaultPlaces
+pub mod ShownLemmas
+pub mod IndexLemmas
+pub mod LoadLemmas
+pub mod HeldLemmas
+pub mod TurnLemmas
