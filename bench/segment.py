@@ -1,13 +1,13 @@
 #!/usr/bin/env python3
-"""Times one fragment of an hour of film against a copy of as many bytes.
+"""Times one segment of an hour of film, in both forms, against a copy of as many bytes.
 
-usage: bench/fragment.py [PROGRAM]
+usage: bench/segment.py [PROGRAM]
 
 PROGRAM is the built vodpack, by default crates/vodpack/out/vodpack. The film has 90,000 pictures at 25 a second, with a sync
 sample every 2 seconds and frames out of order, and 168,750 samples of audio at 48000, in 3,600 chunks each that stand by
-turns; its movie box stands behind the samples. It is made in a folder that is removed again, of about 225 MB. For the first
-and the last fragment of v1-a1 the script prints the least seconds of several runs, those of dd, and the ratio. The status is
-0 where each fragment took less than 2 seconds.
+turns; each picture is one NAL unit, and the movie box stands behind the samples. It is made in a folder that is removed again, of
+about 225 MB. For the first and the last segment of v1-a1, as a fragment and as a transport stream, the script prints the least
+seconds of several runs, those of dd, and the ratio. The status is 0 where each segment took less than 2 seconds.
 """
 import os
 import shutil
@@ -82,10 +82,10 @@ def write_film(path):
         film.write(u32(8 + sum(pictures) + sum(sounds)) + b"mdat")
         place, heard = film.tell(), 0
         for second in range(SECONDS):
-            size = sum(pictures[25 * second : 25 * second + 25])
+            sizes = pictures[25 * second : 25 * second + 25]
             video.append((place, 25))
-            film.write(os.urandom(size))
-            place += size
+            film.write(b"".join(u32(size - 4) + b"\x41" + os.urandom(size - 5) for size in sizes))
+            place += sum(sizes)
             until = min(SOUNDS, (48000 * (second + 1) + 1023) // 1024)
             size = sum(sounds[heard:until])
             audio.append((place, until - heard))
@@ -128,8 +128,9 @@ def main():
         size = os.path.getsize(f"{folder}/film.mp4")
         print(f"film {size} bytes, movie box {movie} bytes, {PICTURES} pictures, {SOUNDS} samples of audio")
         worst = 0
-        for number in (1, SECONDS // 10):
-            path = f"/local/dash/film.mp4/fragment-{number}-v1-a1.m4s"
+        names = ("dash/film.mp4/fragment-%d-v1-a1.m4s", "hls/film.mp4/seg-%d-v1-a1.ts")
+        for name, number in ((name, number) for name in names for number in (1, SECONDS // 10)):
+            path = f"/local/{name % number}"
             out = f"{folder}/out"
             took = least([program, "get", ".", "-", path], folder, out)
             length = os.path.getsize(out)
@@ -137,7 +138,7 @@ def main():
             words = ["dd", "if=film.mp4", "bs=64k", f"count={length}", f"skip={skip}", "iflag=count_bytes,skip_bytes"]
             copied = least(words, folder, out)
             assert os.path.getsize(out) == length
-            print(f"fragment {number}: {length} bytes, {took:.3f} s; dd {copied:.4f} s; ratio {took / copied:.0f}")
+            print(f"{name.split('/')[-1] % number}: {length} bytes, {took:.3f} s; dd {copied:.4f} s; ratio {took / copied:.0f}")
             worst = max(worst, took)
         print(f"slowest {worst:.3f} s, goal below {GOAL} s")
         return 0 if worst < GOAL else 1
