@@ -92,7 +92,10 @@ class Track:
             waits += rest.pop(0)[0]
         self.delay = waits * UNITS // movie_scale
         self.skip = rest[0][1] * UNITS // self.scale if rest else 0
-        self.edits_are_bad = any(time < -1 for _, time in self.edits or [])
+        # a damaged edit list is refused by its table, a damaged box round it by its place
+        self.damage = draw.choice(["version", "count", "header"]) if self.edits is not None and draw.random() < 0.02 else None
+        is_early = any(time < -1 for _, time in self.edits or [])
+        self.edit_fault = 21 if self.damage == "header" else 24 if self.damage or is_early else None
 
     def cut(self, honoured):
         """What counts of the edit list: the delay, what is skipped, and what of that is kept for decoding."""
@@ -203,12 +206,17 @@ def track_box(draw, track, chunks, wide):
         header = full(b"mdhd", bytes(16), u32(track.scale, 0, 0), b"\x55\xc4\0\0", version=1)
     handler = full(b"hdlr", u32(0), {"v": b"vide", "a": b"soun"}[track.kind], bytes(13))
     media = box(b"mdia", header, handler, box(b"minf", box(b"stbl", *tables)))
-    return box(b"trak", full(b"tkhd", bytes(80)), *edit_boxes(draw, track.edits), media)
+    return box(b"trak", full(b"tkhd", bytes(80)), *edit_boxes(draw, track.edits, track.damage), media)
 
 
-def edit_boxes(draw, entries):
+def edit_boxes(draw, entries, damage):
     if entries is None:
         return []
+    if damage == "header":
+        return [box(b"edts", u32(4) + b"elst" + bytes(8))]
+    if damage:
+        version, count = (2, 0) if damage == "version" else (0, len(entries) + 1)
+        return [box(b"edts", full(b"elst", u32(count), bytes(12 * len(entries)), version=version))]
     if draw.random() < 0.5:
         fields = b"".join(struct.pack(">IiI", lasts, time, 0x10000) for lasts, time in entries)
         return [box(b"edts", full(b"elst", u32(len(entries)), fields))]
@@ -283,8 +291,8 @@ def checked(films, piece, asked, honoured):
             if asked[kind] > len(named[kind]):
                 raise Refused(25)
             found[kind] = named[kind][asked[kind] - 1]
-            if honoured and found[kind].edits_are_bad:
-                raise Refused(24)
+            if honoured and found[kind].edit_fault:
+                raise Refused(found[kind].edit_fault)
     return found
 
 
