@@ -2,3 +2,5 @@ pub mod AskingLemmas
 pub mod ListedCells
 pub mod ListedParts
 pub mod ListedTimelines
+pub mod BandwidthLemmas
+pub mod CodecLemmas

@@ -3,6 +3,8 @@
 #![tactic(auto)]
 
 mod asking;
+mod bandwidths;
+mod codecs;
 mod description;
 mod iframes;
 mod listed_part;
