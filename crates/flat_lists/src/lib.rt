@@ -6,6 +6,7 @@ mod asking;
 mod bandwidths;
 mod codecs;
 mod description;
+mod first_asked;
 mod iframes;
 mod listed_part;
 mod listed_parts;
