@@ -4,3 +4,4 @@ pub mod ListedParts
 pub mod ListedTimelines
 pub mod BandwidthLemmas
 pub mod CodecLemmas
+pub mod Paths
