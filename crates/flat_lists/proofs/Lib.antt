@@ -5,3 +5,4 @@ pub mod ListedTimelines
 pub mod BandwidthLemmas
 pub mod CodecLemmas
 pub mod Paths
+pub mod ShownLemmas

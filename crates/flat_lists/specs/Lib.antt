@@ -4,3 +4,4 @@ pub mod ListedCells
 pub mod ListedParts
 pub mod Listings
 pub mod Steps
+pub mod Shown

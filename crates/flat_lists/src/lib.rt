@@ -12,6 +12,7 @@ mod listed_part;
 mod listed_parts;
 mod listed_timeline;
 mod master;
+mod shown;
 
 pub use asking::{Asking, asking_of};
 pub use description::presentation_description;
