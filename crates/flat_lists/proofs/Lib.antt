@@ -6,3 +6,5 @@ pub mod BandwidthLemmas
 pub mod CodecLemmas
 pub mod Paths
 pub mod ShownLemmas
+pub mod VariantLemmas
+pub mod MasterLemmas

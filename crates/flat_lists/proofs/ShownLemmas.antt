@@ -48,8 +48,7 @@ pub shown_is : (m : Mapping) (count sequence : ℕ) (asked : Asked) (c : Checked
     → IsAsked asked → IsSoundPiece asked c → s.video_bandwidth ≤ 2 ^ 100 → s.audio_bandwidth ≤ 2 ^ 100 → IsShown count s
 shown_is m count sequence asked c s e number small numbers sound video audio = record {
   number = subst (λ (s : Shown). IsInRange 1 count s.sequence) (sym e) number;
-  video = video;
-  audio = audio;
+  bandwidths = record { video = video; audio = audio };
   variant = subst (λ (s : Shown). IsVariant (variant_by s)) (sym e) (record {
     sequence = small;
     asked = numbers;

@@ -1,5 +1,5 @@
 -- A sequence as a master playlist shows it; this project's own.
-use Rattle.std.specs.Prelude.{◌≡◌, ℕ, ◌+◌, ◌≤◌, ◌^◌, Bool, List, [], ◌++◌, map, sum, take, Option, option_map, option_and_then, unwrap_or, Result, Ok, if◌then◌else◌}
+use Rattle.std.specs.Prelude.{◌≡◌, ℕ, ◌+◌, ◌≤◌, ◌^◌, Bool, true, false, not, List, [], ◌∷◌, ◌++◌, filter, map, sum, take, Option, option_map, option_and_then, unwrap_or, Result, Ok, if◌then◌else◌}
 use Rattle.std.specs.Int.{IsInRange}
 use Rattle.std.specs.Option.{option_map_or}
 use Rattle.vod_types.specs.declared.refusal.Refusal.{Refusal}
@@ -16,7 +16,7 @@ use Rattle.clip_model.specs.Mapping.{Mapping, bitrate_of, sequence_at}
 use Rattle.list_model.specs.declared.Rendition.{Rendition}
 use Rattle.list_model.specs.declared.Variant.{Variant}
 use Rattle.list_model.specs.Iframes.{iframe_stream_lines}
-use Rattle.list_model.specs.Playlist.{IsVariant, bandwidth_of, grouped, ungrouped, master_playlist}
+use Rattle.list_model.specs.Playlist.{IsVariant, bandwidth_of, is_audio_only, grouped, ungrouped, master_playlist}
 use Rattle.vod_source.specs.Stored.{Read}
 use Rattle.origin_model.specs.Lists.{ShownSequence, aac_of, asked_first, checked_first, first_track, sequence_numbers, shown_sequence}
 use Rattle.origin_model.specs.Plans.{pieces_or_none}
@@ -69,11 +69,15 @@ first_names o a sequence = map (λ piece. piece.name) (pieces_or_none (timeline_
 abbrev pub variant_by : Shown → Variant
 variant_by s = record { sequence = s.sequence; asked = s.asked; bandwidth = s.video_bandwidth + s.audio_bandwidth; size = s.size; video = s.video; aac = s.aac }
 
+-- the sum of its bandwidths fits, also beside a group
+pub record HasBandwidths (s : Shown) : Type 0 where
+  pub video : s.video_bandwidth ≤ 2 ^ 100
+  pub audio : s.audio_bandwidth ≤ 2 ^ 100
+
 -- its number is that of a sequence, and it can be written
 pub record IsShown (count : ℕ) (s : Shown) : Type 0 where
   pub number : IsInRange 1 count s.sequence
-  pub video : s.video_bandwidth ≤ 2 ^ 100
-  pub audio : s.audio_bandwidth ≤ 2 ^ 100
+  pub bandwidths : HasBandwidths s
   pub variant : IsVariant (variant_by s)
 
 -- ---- all of them
@@ -98,6 +102,15 @@ rendition_by m v = record {
   language = option_and_then (λ s. s.language) (sequence_at m v.sequence);
   label = option_and_then (λ s. s.label) (sequence_at m v.sequence);
 }
+
+-- what of a sequence is a variant by itself, and what of it is in the audio group, where there is one or isn't
+abbrev pub out_of_group : Bool → Shown → List Variant
+out_of_group true s = filter (λ v. not (is_audio_only v)) (variant_by s ∷ [])
+out_of_group false s = variant_by s ∷ []
+
+abbrev pub in_group : Mapping → Bool → Shown → List Rendition
+in_group m true s = map (rendition_by m) (filter is_audio_only (variant_by s ∷ []))
+in_group m false s = []
 
 abbrev pub playlist_by : Mapping → List Shown → List ℕ
 playlist_by m shown = master_playlist (ungrouped (map variant_by shown)) (map (rendition_by m) (grouped (map variant_by shown)))

@@ -13,6 +13,7 @@ mod listed_parts;
 mod listed_timeline;
 mod master;
 mod shown;
+mod variants;
 
 pub use asking::{Asking, asking_of};
 pub use description::presentation_description;
