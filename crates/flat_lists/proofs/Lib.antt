@@ -2,3 +2,9 @@ pub mod AskingLemmas
 pub mod ListedCells
 pub mod ListedParts
 pub mod ListedTimelines
+pub mod BandwidthLemmas
+pub mod CodecLemmas
+pub mod Paths
+pub mod ShownLemmas
+pub mod VariantLemmas
+pub mod MasterLemmas

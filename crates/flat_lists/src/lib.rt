@@ -3,12 +3,17 @@
 #![tactic(auto)]
 
 mod asking;
+mod bandwidths;
+mod codecs;
 mod description;
+mod first_asked;
 mod iframes;
 mod listed_part;
 mod listed_parts;
 mod listed_timeline;
 mod master;
+mod shown;
+mod variants;
 
 pub use asking::{Asking, asking_of};
 pub use description::presentation_description;

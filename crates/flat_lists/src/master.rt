@@ -9,6 +9,8 @@ ghost use Rattle.flat_lists.specs.Asked.{asking_view, setup_of};
 ghost use Rattle.flat_lists.specs.Listings.{leaf_turns, master_due};
 
 use crate::asking::Asking;
+use crate::shown::shown_sequences;
+use crate::variants::text_of;
 use std::alloc::Global;
 use vod_source::Store;
 use vod_types::{Refusal, Settings};
@@ -31,5 +33,8 @@ pub fn master_playlist<S: Store>(
     ensures later { S.faults files.old ≤ S.faults files.new }
     ensures store_failed { IsErrOf result StoreFailed → Rose (S.faults files.old) (S.faults files.new) }
 {
-    Err(Refusal::NoMemory)
+    match shown_sequences(alloc, files, settings, root, asking) {
+        Ok(shown) => text_of(alloc, &asking.mapping, settings.iframes, &shown),
+        Err(refusal) => Err(refusal),
+    }
 }
