@@ -2,3 +2,6 @@ pub mod AskingLemmas
 pub mod ListedCells
 pub mod ListedParts
 pub mod ListedTimelines
+pub mod CountedIframes
+pub mod IframeMarks
+pub mod MarkedRows

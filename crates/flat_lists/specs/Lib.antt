@@ -3,3 +3,5 @@ pub mod Mapped
 pub mod ListedCells
 pub mod ListedParts
 pub mod Listings
+pub mod Marks
+pub mod Counted

@@ -4,10 +4,12 @@
 
 mod asking;
 mod description;
+mod iframe_marks;
 mod iframes;
 mod listed_part;
 mod listed_parts;
 mod listed_timeline;
+mod marked_rows;
 mod master;
 
 pub use asking::{Asking, asking_of};
