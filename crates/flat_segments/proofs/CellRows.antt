@@ -1,5 +1,5 @@
 -- Rows of a cell, through a view of their samples.
-use Rattle.std.proofs.Common.{◌≡◌, ℕ, zero, suc, ◌+◌, ◌-◌, ◌<◌, ◌≤◌, max, cond, not, ◌&&◌, List, [], ◌∷◌, length, map, filter, take, drop, ℤ, pos, ◌+ℤ◌, Option, Some, None, option_map, slice_get, slice_range, All, unwrap_or, refl, sym, ap, ap₂, ◌∙◌, subst, arith}
+use Rattle.std.proofs.Common.{◌≡◌, ℕ, zero, suc, ◌-◌, ◌<◌, ◌≤◌, max, cond, not, ◌&&◌, List, [], ◌∷◌, length, map, filter, take, drop, ℤ, pos, ◌+ℤ◌, Option, Some, None, option_map, slice_get, slice_range, All, unwrap_or, refl, sym, ap, ap₂, ◌∙◌, subst, arith}
 use Rattle.std.specs.Prelude.{is_some}
 use Rattle.std.specs.List.{list_any, position, position_or_len}
 use Rattle.std.proofs.lemmas.Bool.{lt-ltb, le-ltb}

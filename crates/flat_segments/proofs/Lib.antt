@@ -1,4 +1,13 @@
+pub mod Counts
+pub mod Looks
+pub mod Walks
+pub mod RowFaults
+pub mod PlacedRows
+pub mod Fronts
+pub mod DueRows
+pub mod SoundRows
 pub mod CellRows
 pub mod Places
-pub mod Counts
+pub mod Failures
+pub mod SegmentCalls
 pub mod BodyLemmas

@@ -1,19 +1,22 @@
 -- The pieces that a segment needs, looked at one after another; this project's own.
-use Rattle.std.specs.Prelude.{◌≡◌, ◌≢◌, ℕ, Bool, false, List, [], ◌∷◌, ◌++◌, length, map, take, Option, is_err, All, Result, Ok, Err}
+use Rattle.std.specs.Prelude.{◌≡◌, ◌≢◌, ℕ, Bool, false, List, [], ◌∷◌, ◌++◌, length, map, take, drop, Option, is_some, is_err, All, Result, Ok, Err}
 use Rattle.std.specs.Option.{option_map_or}
 use Rattle.vod_types.specs.declared.refusal.Refusal.{Refusal}
 use Rattle.vod_types.specs.declared.refusal.Refusal.TheVariants.{NoMemory, StoreFailed}
 use Rattle.vod_types.specs.declared.tracks.Asked.{Asked}
 use Rattle.vod_types.specs.Lists.{through_first}
 use Rattle.vod_types.specs.Results.{◌>>=◌, each_in_turn}
+use Rattle.clip_model.specs.declared.Part.{Part}
 use Rattle.clip_model.specs.declared.Piece.{Piece}
+use Rattle.clip_model.specs.IsTimeline.{IsTimeline}
+use Rattle.clip_model.specs.Timeline.{Timeline}
 use Rattle.segment_model.specs.Needed.{begins}
 use Rattle.segment_model.specs.Timeline.{timeline}
 use Rattle.vod_source.specs.Stored.{Files, Read}
 use Rattle.vod_source.specs.Told.{told_with}
 use Rattle.origin_model.specs.Loaded.{CheckedPiece, checked}
 use Rattle.origin_model.specs.Reads.{turn, turns}
-use Rattle.origin_model.specs.Sources.{source_piece, source_of}
+use Rattle.origin_model.specs.Sources.{source_piece, source_of, part_pieces}
 use Rattle.origin_model.specs.Writable.{IsSoundPiece}
 use Rattle.flat_segments.specs.declared.cells.PartCells.{PartCells}
 use Rattle.flat_segments.specs.declared.needed.Needed.{Needed}
@@ -28,6 +31,7 @@ use Rattle.flat_segments.specs.Segments.{facts_of, file_of, SizesAreTrue}
 pub record IsAdded (c : CheckedPiece) (n now : Needed) : Type 0 where
   pub file : NeededFile
   pub of : facts_of file ≡ file_of c
+  pub typed : is_some file.video_type ≡ is_some c.video
   pub files : now.files.items ≡ n.files.items ++ file ∷ []
   pub rows : part_rows now.rows ≡ rows_with (part_rows n.rows) (length n.files.items) (source_piece c)
 
@@ -36,17 +40,30 @@ pub record AreNeeded (cs : List CheckedPiece) (n : Needed) : Type 0 where
   pub files : map facts_of n.files.items ≡ map file_of cs
   pub rows : part_rows n.rows ≡ timeline (map source_piece cs)
 
+-- the files of video have the types of its sample entries
+abbrev pub AreTyped : Asked → List NeededFile → Type 0
+AreTyped asked files = All (λ f. is_some f.video_type ≡ is_some asked.video) files
+
 -- whatever the store tells, they are those of so many of these pieces, each with its asked tracks
 pub record AreOfFirst (asked : Asked) (count : ℕ) (pieces : List Piece) (n : Needed) : Type 0 where
   pub checked : List CheckedPiece
   pub sound : All (IsSoundPiece asked) checked
   pub of : map (λ c. c.piece) checked ≡ take count pieces
   pub needed : AreNeeded checked n
+  pub typed : AreTyped asked n.files.items
   pub placed : ArePlacedRows (part_rows n.rows)
 
 -- of the first of them
 abbrev pub AreOfPieces : Asked → List Piece → Needed → Type 0
 AreOfPieces asked pieces n = (count : ℕ) × AreOfFirst asked count pieces n
+
+-- They are those of some of the pieces of a part of a timeline, from one on.
+pub record AreOfPart (asked : Asked) (n : Needed) : Type 0 where
+  pub timeline : Timeline
+  pub part : Part
+  pub skipped : ℕ
+  pub kept : IsTimeline timeline.pieces timeline.parts
+  pub pieces : AreOfPieces asked (drop skipped (part_pieces timeline part)) n
 
 -- ---- one piece
 

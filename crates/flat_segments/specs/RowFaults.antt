@@ -1,19 +1,23 @@
 -- The faults of the rows of a segment, by what is kept of its files; this project's own.
-use Rattle.std.specs.Prelude.{ℕ, ◌+◌, ◌<◌, ◌≤◌, ◌^◌, ◌==◌, nat_lt, List, [], ◌∷◌, length, find, filter_map, slice_get, Option, option_map, Result, Ok}
+use Rattle.std.specs.Prelude.{ℕ, ◌+◌, ◌<◌, ◌≤◌, ◌^◌, ◌==◌, nat_lt, Bool, false, not, if◌then◌else◌, List, [], ◌∷◌, ◌++◌, length, map, find, filter_map, slice_get, Option, None, option_map, Result, Ok}
 use Rattle.std.specs.Bool.{then_some}
+use Rattle.std.specs.List.{prefix_len}
 use Rattle.std.specs.Option.{option_map_or, option_or}
-use Rattle.vod_types.specs.declared.tracks.Asked.{Asked}
 use Rattle.vod_types.specs.declared.tracks.Kind.{Kind}
 use Rattle.vod_types.specs.declared.tracks.Kind.TheVariants.{Video, Audio}
-use Rattle.vod_types.specs.declared.segments.Form.TheVariants.{Fmp4}
+use Rattle.vod_types.specs.declared.segments.Form.{Form}
+use Rattle.vod_types.specs.declared.segments.Form.TheVariants.{Ts, Fmp4}
 use Rattle.vod_types.specs.declared.segments.Row.{Row}
 use Rattle.vod_types.specs.declared.refusal.Refusal.{Refusal}
-use Rattle.vod_types.specs.declared.refusal.Refusal.TheVariants.{EmptySegment, TooManySamples, SampleTooLong, OutOfFile, SegmentTooLarge}
+use Rattle.vod_types.specs.declared.refusal.Refusal.TheVariants.{EmptySegment, MixedCodecs, TooManySamples, SampleTooLong, OutOfFile, BackwardOffset, SegmentTooLarge}
 use Rattle.vod_types.specs.Results.{◌>>◌, unless}
 use Rattle.vod_types.specs.SegmentRows.{SegmentRows}
+use Rattle.mp4_model.specs.Entries.{is_hevc_type}
 use Rattle.segment_model.specs.Rows.{written_row}
-use Rattle.segment_model.specs.Timeline.{TrackRows, written_rows}
+use Rattle.segment_model.specs.Timeline.{TrackRows}
 use Rattle.media_model.specs.Fragment.{sizes}
+use Rattle.media_model.specs.WritingOrder.{TrackRow, of_track, is_before, writing_order}
+use Rattle.origin_model.specs.Samples.{SegmentPlan, greatest_size, is_backward}
 use Rattle.flat_samples.specs.declared.samples.TimedSample.{TimedSample}
 use Rattle.flat_samples.specs.Rows.{timed_view}
 use Rattle.flat_segments.specs.Segments.{FileFacts, config_of}
@@ -28,18 +32,43 @@ size_in facts file = option_map_or (λ f. f.size) (slice_get facts file) 0
 abbrev pub config_in : List FileFacts → ℕ → Kind → List ℕ
 config_in facts file kind = option_map_or (config_of kind) (slice_get facts file) []
 
+-- ---- rows
+
 -- the first fault of a row
-abbrev pub row_fault : List FileFacts → Row → Option Refusal
-row_fault facts row =
-    option_or (then_some (nat_lt 16777216 row.sample.size) (SampleTooLong (name_in facts row.file) row.number row.sample.size))
-    (then_some (nat_lt (size_in facts row.file) (row.sample.at + row.sample.size)) (OutOfFile (name_in facts row.file) row.number))
+unfoldable pub row_fault : Form → List FileFacts → TrackRow → Option Refusal
+row_fault form facts r =
+    let name = name_in facts r.row.file in
+    let sample = r.row.sample in
+    option_or (then_some (nat_lt (greatest_size form r.kind) sample.size) (SampleTooLong name r.row.number sample.size))
+    (option_or (then_some (nat_lt (size_in facts r.row.file) (sample.at + sample.size)) (OutOfFile name r.row.number))
+    (then_some (is_backward form r) (BackwardOffset name r.row.number)))
 
-abbrev pub first_fault : List FileFacts → List Row → Option Refusal
-first_fault facts rows = slice_get (filter_map (row_fault facts) rows) 0
+unfoldable pub first_fault : Form → List FileFacts → List TrackRow → Option Refusal
+first_fault form facts rows = slice_get (filter_map (row_fault form facts) rows) 0
 
--- samples as a fragment shows them
-abbrev pub shown : TimedSample → Row
-shown s = written_row Fmp4 (timed_view s)
+-- a sample as a form shows it
+abbrev pub shown : Form → TimedSample → Row
+shown form s = written_row form (timed_view s)
+
+-- rows in the writing order of their form
+abbrev pub ordered : Form → List Row → List Row → List TrackRow
+ordered Ts video audio = writing_order video audio
+ordered Fmp4 video audio = map (of_track Video) video ++ map (of_track Audio) audio
+
+-- the first fault of samples of both kinds in that order
+abbrev pub ordered_fault : Form → List FileFacts → List TimedSample → List TimedSample → Option Refusal
+ordered_fault form facts video audio = first_fault form facts (ordered form (map (shown form) video) (map (shown form) audio))
+
+-- the first fault of samples of one kind
+abbrev pub kind_fault : Form → Kind → List FileFacts → List TimedSample → Option Refusal
+kind_fault form kind facts samples = first_fault form facts (map (of_track kind) (map (shown form) samples))
+
+-- so many of the audio rows that are left are written before a video row
+abbrev pub rows_before : Form → Row → List Row → ℕ
+rows_before Ts v audio = prefix_len (is_before v) audio
+rows_before Fmp4 v audio = 0
+
+-- ---- what comes before the rows
 
 -- no lead row, or too many rows of a track
 abbrev pub none_fault : ℕ → TrackRows → Option Refusal
@@ -48,27 +77,46 @@ none_fault number rows = then_some (length rows.lead == 0) (EmptySegment number)
 abbrev pub many_fault : TrackRows → Option Refusal
 many_fault rows = option_map (λ count. TooManySamples count) (find (nat_lt 200000) (length rows.lead ∷ length rows.other ∷ []))
 
-abbrev pub count_fault : ℕ → TrackRows → Option Refusal
-count_fault number rows = option_or (none_fault number rows) (many_fault rows)
+-- the file's video is HEVC
+abbrev pub has_hevc : FileFacts → Bool
+has_hevc f = is_hevc_type f.video_type
+
+-- the first of the files whose video has another codec
+abbrev pub mixed_with : FileFacts → List FileFacts → Option Refusal
+mixed_with first facts = option_map (λ f. MixedCodecs f.name first.video_type f.video_type) (find (λ f. if has_hevc first then not (has_hevc f) else has_hevc f) facts)
+
+abbrev pub mixed_in : Form → List FileFacts → Option Refusal
+mixed_in Ts [] = None
+mixed_in Ts (first ∷ facts) = mixed_with first facts
+mixed_in Fmp4 facts = None
+
+unfoldable pub front_in : ℕ → Form → List FileFacts → TrackRows → Option Refusal
+front_in number form facts rows = option_or (none_fault number rows) (option_or (mixed_in form facts) (many_fault rows))
+
+-- ---- all of it
 
 -- the bytes of all samples are too many
 abbrev pub bytes_fault : ℕ → Option Refusal
 bytes_fault bytes = then_some (nat_lt 2130706432 bytes) (SegmentTooLarge bytes)
 
+-- the video of the first file is HEVC
+abbrev pub begins_in : List FileFacts → Bool
+begins_in facts = option_map_or has_hevc (slice_get facts 0) false
+
 -- rows with the names and the configurations of their files
 abbrev pub rows_in : List FileFacts → List Row → List Row → SegmentRows
 rows_in facts video audio = record { video = video; audio = audio; name = name_in facts; config = config_in facts }
 
--- the rows of both lists, or their first fault
-abbrev pub both_checked : List FileFacts → List Row → List Row → Result SegmentRows Refusal
-both_checked facts video audio = do
-  unless (option_or (first_fault facts video) (first_fault facts audio))
-  unless (bytes_fault (sizes video + sizes audio))
-  Ok (rows_in facts video audio)
+abbrev pub plan_in : List FileFacts → List Row → List Row → SegmentPlan
+plan_in facts video audio = record { hevc = begins_in facts; rows = rows_in facts video audio }
 
--- the rows of a segment of fragmented MP4, or its first refusal
-abbrev pub fragment_rows : ℕ → Asked → List FileFacts → TrackRows → Result SegmentRows Refusal
-fragment_rows number asked facts rows = unless (count_fault number rows) >> both_checked facts (written_rows Fmp4 asked Video rows) (written_rows Fmp4 asked Audio rows)
+-- a segment of these rows of each kind, or its first refusal
+abbrev pub planned_in : ℕ → Form → List FileFacts → TrackRows → List Row → List Row → Result SegmentPlan Refusal
+planned_in number form facts rows video audio = do
+  unless (front_in number form facts rows)
+  unless (first_fault form facts (ordered form video audio))
+  unless (bytes_fault (sizes video + sizes audio))
+  Ok (plan_in facts video audio)
 
 -- the row's range lies in its file, by the file's size
 abbrev pub LiesInFile : List FileFacts → Row → Type 0

@@ -1,5 +1,5 @@
 -- The files and the rows of the pieces that a segment needs; this project's own.
-use Rattle.std.specs.Prelude.{◌≡◌, ℕ, max, Bool, List, [], ◌++◌, length, map, fold, slice_get, pos, Option, All}
+use Rattle.std.specs.Prelude.{◌≡◌, ℕ, max, List, [], ◌++◌, length, map, fold, slice_get, Option, All}
 use Rattle.std.specs.Option.{option_map_or}
 use Rattle.vod_types.specs.declared.segments.Form.{Form}
 use Rattle.vod_types.specs.declared.segments.Form.TheVariants.{Ts, Fmp4}
@@ -7,8 +7,6 @@ use Rattle.vod_types.specs.declared.tracks.Asked.{Asked}
 use Rattle.vod_types.specs.declared.tracks.Kind.{Kind}
 use Rattle.vod_types.specs.declared.tracks.Kind.TheVariants.{Video, Audio}
 use Rattle.vod_types.specs.SegmentRows.{SegmentRows}
-use Rattle.segment_model.specs.Laws.{PlaceRises}
-use Rattle.segment_model.specs.Timeline.{TrackRows}
 use Rattle.vod_source.specs.Stored.{Files, bytes_of}
 use Rattle.fmp4_writer.specs.Progress as fragments
 use Rattle.ts_writer.specs.Conditions as streams
@@ -62,8 +60,3 @@ AreWritableBy Fmp4 asked content r = fragments.AreWritable content (flat_rows_vi
 -- each is as long as the file of its name
 abbrev pub SizesAreTrue : Files → List NeededFile → Type 0
 SizesAreTrue files needed = All (λ f. length (bytes_of files f.name) ≡ f.size) needed
-
--- rows that can be written: their times begin at 0 or later and don't fall
-pub record AreOrderedRows (rows : TrackRows) : Type 0 where
-  pub lead : PlaceRises (pos 0) rows.lead
-  pub other : PlaceRises (pos 0) rows.other

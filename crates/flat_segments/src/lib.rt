@@ -4,10 +4,12 @@
 
 mod body;
 mod cells;
+mod codecs;
 mod facts;
 mod lone_iframe;
 mod needed;
 mod parts;
+mod row_checks;
 mod rows;
 mod segment;
 

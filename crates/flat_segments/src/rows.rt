@@ -4,6 +4,7 @@ ghost use Rattle.std.specs.Prelude.{◌<◌, ◌^◌, vec_len};
 
 use crate::facts::{config_of, name_of};
 use crate::needed::NeededFile;
+pub(crate) use crate::row_checks::checked_rows;
 use vod_types::{Kind, Row, Rows};
 
 /// Rows of a segment as its writer takes them, with a place in each list, and whether the video is HEVC. They count their files
