@@ -8,3 +8,6 @@ pub mod Paths
 pub mod ShownLemmas
 pub mod VariantLemmas
 pub mod MasterLemmas
+pub mod CountedIframes
+pub mod IframeMarks
+pub mod MarkedRows

@@ -173,7 +173,7 @@ pub record IsBegin (g : PartGrid) (rows : TrackRows) (k : ℕ) (b : Begin) : Typ
   pub other : b.other ≡ other_from rows (first_row g rows.lead k)
 
 module _ (g : PartGrid) (rows : TrackRows) where
-  lead_order : (k : ℕ) → k < g.cells → first_row g rows.lead k ≤ first_row g rows.lead (k + 1)
+  pub lead_order : (k : ℕ) → k < g.cells → first_row g rows.lead k ≤ first_row g rows.lead (k + 1)
   lead_order k below =
       let here : first_row g rows.lead k ≡ seek (cell_reached g) 0 k rows.lead = first_row_is g k rows.lead (omega arith) in
       let next : first_row g rows.lead (suc k) ≡ seek (cell_reached g) 0 (suc k) rows.lead = first_row_is g (suc k) rows.lead (omega arith) in

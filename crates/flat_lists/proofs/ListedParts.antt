@@ -132,7 +132,7 @@ module _ (n : ℕ) where
   from-behind (r ∷ rs) zero time = refl
   from-behind (r ∷ rs) (suc i) time = from-behind rs i time
 
-  end-behind : (start : ℤ) (rows : List TimedRow) → lead_end start (map (behind n) rows) ≡ lead_end start rows
+  pub end-behind : (start : ℤ) (rows : List TimedRow) → lead_end start (map (behind n) rows) ≡ lead_end start rows
   end-behind start [] = refl
   end-behind start (r ∷ rs) = end-behind (end_of r) rs
 
@@ -146,7 +146,7 @@ module _ (n : ℕ) where
       step false e = e
 
   module _ (g : PartGrid) (rows : TrackRows) where
-    row-behind : (k : ℕ) → first_row g (map (behind n) rows.lead) k ≡ first_row g rows.lead k
+    pub row-behind : (k : ℕ) → first_row g (map (behind n) rows.lead) k ≡ first_row g rows.lead k
     unfolding first_row
     row-behind k = ap₂ (cond (ltb k g.cells)) (position_or_len-map (behind n) (may_begin g k) rows.lead) (length-map rows.lead (behind n))
 
@@ -253,7 +253,7 @@ module _ (grid : SegmentGrid) (align : Bool) (leads : Kind) (pieces : List Sourc
     rest_both : rest ≡ timeline_from at (own_pieces ++ drop part.count (drop at pieces))
     rest_both = is.rest_is ∙ ap (timeline_from at) (sym both)
 
-    own_is : rows_before (part.first + part.count) rest ≡ all_behind at (timeline own_pieces)
+    pub own_is : rows_before (part.first + part.count) rest ≡ all_behind at (timeline own_pieces)
     own_is = ap (rows_before (part.first + part.count)) rest_both ∙ timeline-front at (part.first + part.count) own_pieces (drop part.count (drop at pieces)) own-length ∙ timeline-behind at own_pieces
 
     later_is : rows_from (part.first + part.count) rest ≡ timeline_from (at + part.count) (drop (at + part.count) pieces)
@@ -261,13 +261,13 @@ module _ (grid : SegmentGrid) (align : Bool) (leads : Kind) (pieces : List Sourc
         ap (rows_from (part.first + part.count)) rest_both ∙ timeline-back at (part.first + part.count) own_pieces (drop part.count (drop at pieces)) own-length
         ∙ ap₂ timeline_from (let same : part.first + part.count ≡ at + part.count = omega (arith, is.follow.0) in same) (drop-drop part.count at pieces)
 
-    pieces_are : (part_over pieces part).pieces ≡ own_pieces
+    pub pieces_are : (part_over pieces part).pieces ≡ own_pieces
     pieces_are = ap₂ (λ n i. take n (drop i pieces)) (let same : part.first + part.count - part.first ≡ part.count = omega arith in same) is.follow.0
 
-    own_order : AreTimelineRows (pos 0) (timeline own_pieces)
+    pub own_order : AreTimelineRows (pos 0) (timeline own_pieces)
     own_order = subst (λ ps. AreTimelineRows (pos 0) (timeline ps)) pieces_are order
 
-    grid_is : grid_with grid align part count ≡ part_grid grid align (part_over pieces part)
+    pub grid_is : grid_with grid align part count ≡ part_grid grid align (part_over pieces part)
     grid_is = ap (grid_with grid align part) (let same : count ≡ (part_grid grid align (part_over pieces part)).cells = first_is is.counts_left in same)
       where
         first_is : {m n : ℕ} {ms ns : List ℕ} → m ∷ ms ≡ n ∷ ns → m ≡ n
@@ -281,7 +281,7 @@ module _ (grid : SegmentGrid) (align : Bool) (leads : Kind) (pieces : List Sourc
         ∙ sym (listed_one_by_one (grid_with grid align part count) (timeline own_pieces) leads (suc place) number (pos 0) own_order.lead)
         ∙ ap₂ (λ g ps. listed_part leads (suc place) number g (timeline ps)) grid_is (sym pieces_are)
 
-    own_lead : (own : TrackRows) → own ≡ rows_before (part.first + part.count) rest → PlaceRises (pos 0) own.lead
+    pub own_lead : (own : TrackRows) → own ≡ rows_before (part.first + part.count) rest → PlaceRises (pos 0) own.lead
     own_lead own e = subst (λ (rows : TrackRows). PlaceRises (pos 0) rows.lead) (sym (e ∙ own_is)) (rises-behind at (pos 0) (timeline own_pieces).lead own_order.lead)
 
     own_other : (own : TrackRows) → own ≡ rows_before (part.first + part.count) rest → PlaceRises (pos 0) own.other

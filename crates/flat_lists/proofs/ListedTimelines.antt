@@ -55,7 +55,7 @@ unfolding few_cells
 cells_many all cells e many =
     ap (λ b. unless (then_some b (TooManySegments cells))) (lt-ltb 100000 cells (omega (arith, e, many))) ∙ ap (λ n. Err (TooManySegments n)) (sym e)
 
-cells_few : (cells : ℕ) → cells ≤ 100000 → few_cells cells ≡ Ok tt
+pub cells_few : (cells : ℕ) → cells ≤ 100000 → few_cells cells ≡ Ok tt
 unfolding few_cells
 cells_few cells few = ap (λ b. unless (then_some b (TooManySegments cells))) (le-ltb 100000 cells few)
 

@@ -5,3 +5,5 @@ pub mod ListedParts
 pub mod Listings
 pub mod Steps
 pub mod Shown
+pub mod Marks
+pub mod Counted

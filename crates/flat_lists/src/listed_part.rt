@@ -146,7 +146,7 @@ impl ListedPart<'_> {
     }
 
     // The index of the first lead row of a cell, if that isn't before an earlier one.
-    fn first_lead(&self, k: u64, earlier: usize) -> usize
+    pub(crate) fn first_lead(&self, k: u64, earlier: usize) -> usize
         requires few { k ≤ 100001 }
         requires start { IsTime self.now.cells.start }
         requires earlier { earlier ≤ length self.now.rows.lead.now }

@@ -60,7 +60,7 @@ pub(crate) fn list_parts(
 }
 
 // The rows before those of a piece, by its place, and the others.
-fn split(rows: RowSlices<'_>, place: u32) -> (RowSlices<'_>, RowSlices<'_>)
+pub(crate) fn split(rows: RowSlices<'_>, place: u32) -> (RowSlices<'_>, RowSlices<'_>)
     ensures before { slices_view result.0 ≡ rows_before place (slices_view rows.entry) }
     ensures from { slices_view result.1 ≡ rows_from place (slices_view rows.entry) }
 {

@@ -114,7 +114,7 @@ fn open_rows<S: Store>(
 }
 
 // There are at most 100,000 cells in all.
-fn few_cells(counts: &[u64]) -> Result<(), Refusal>
+pub(crate) fn few_cells(counts: &[u64]) -> Result<(), Refusal>
     requires few { length counts.now ≤ 128 }
     requires bounded { All (λ count. count ≤ 2 ^ 42) counts.now }
     ensures few { IfOk result (λ done. sum counts.now ≤ 100000) }
@@ -129,7 +129,7 @@ fn few_cells(counts: &[u64]) -> Result<(), Refusal>
 }
 
 // Looks at all pieces of a sequence.
-fn all_needed<S: Store>(
+pub(crate) fn all_needed<S: Store>(
     alloc: Global,
     files: &mut S,
     cut: Cut<'_>,
