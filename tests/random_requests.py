@@ -5,7 +5,7 @@ usage: tests/random_requests.py [PROGRAM [SEED [ROUNDS]]]
 
 PROGRAM is the built vodpack, by default crates/vodpack/out/vodpack. In each round some small films with tables of all forms,
 edit lists, AVC and HEVC, a mapping and settings are drawn, and then many paths of initialization segments, fragments, transport
-streams and media playlists are asked for. Each answer is compared byte for byte, and each refusal by its number. The model goes
+streams, I-frames and lists of all kinds are asked for. Each answer is compared byte for byte, and each refusal by its number. The model goes
 through lists of samples and knows nothing of how the program reads tables. The status is 0 where all were equal; else the first
 case that differs is kept in a folder that is named.
 """
@@ -611,6 +611,10 @@ def answer(films, mapping, settings, ask):
         "policy": settings.get("policy", "last_short"),
     }
     align, honoured = settings.get("align", False), not settings.get("ignore_edits", False)
+    if ask["list"] == "master":
+        return master(films, mapping, settings, ask, honoured), True
+    if ask["list"] == "mpd":
+        return description(films, mapping, grid, align, ask, honoured), True
     asked = ask["asked"]
     lead = "v" if "v" in asked else "a"
     parts = timeline(mapping, ask["sequence"], ask["window"], ask["tracks"])
@@ -663,6 +667,11 @@ def answer(films, mapping, settings, ask):
         return fragment(number, result), True
     if len({codec == "avc1" for codec in codecs}) > 1:
         raise Refused(32)
+    if "index" in ask:
+        keys = [row for row in result[lead] if row.sync]
+        if not 1 <= ask["index"] <= len(keys):
+            raise Refused(47)
+        result = {lead: [keys[ask["index"] - 1]]}
     if any(row.shown < row.decode for _, row in merged(result)):
         raise Refused(30)
     return stream(result, asked, lead, codecs[0] if codecs else None)
@@ -676,15 +685,181 @@ def index(films, grid, align, honoured, settings, parts, declared, ask, lead):
     counts = counts_of(films, grid, parts, asked, lead, honoured)
     if sum(counts) > 100000:
         raise Refused(42)
-    listed, number = [], 1
+    listed, keys, number = [], [], 1
     for place, part in enumerate(parts):
         cut = Cells(grid, align, part, counts[place], sum(found[place], []))
+        own = []
         for k in range(counts[place]):
             first, last = cut.place(k), cut.place(k + 1)
             if first < last:
                 listed.append((number + k, cut.time_at(last) - cut.time_at(first), place + 1))
+            times = [row.time for row in cut.leads[first:last] if row.sync]
+            own += [(time, number + k, i + 1) for i, time in enumerate(times)]
+        ends = [time for time, _, _ in own[1:]] + [cut.end()]
+        keys += [(segment, i, end - time, place + 1) for (time, segment, i), end in zip(own, ends)]
         number += counts[place]
+    if ask["list"] == "iframes":
+        if len(keys) > 100000:
+            raise Refused(48)
+        return iframe_playlist(keys, ask)
     return playlist(listed, ask, settings.get("hls_fmp4", False))
+
+
+# The model: lists over several sequences
+
+
+CODECS = {"avc1": "avc1.42c01e", "hvc1": "hvc1.1.6.L93.B0", "hev1": "hev1.1.6.L93.B0", "mp4a": "mp4a.40.2"}
+
+
+def exposed_first(films, piece):
+    """Which of v1 and a1 a piece exposes."""
+    name, exposed = piece[:2]
+    if name not in films:
+        raise Refused(20)
+    kinds = []
+    for kind in "va":
+        own = [track for track in films[name] if track.kind == kind]
+        if any(it[0] == kind and int(it[1:]) <= len(own) for it in exposed.split("-")):
+            kinds.append(kind)
+    if not kinds:
+        raise Refused(25)
+    return {kind: 1 for kind in kinds}
+
+
+def bandwidth(sequence, track):
+    rate = sequence.get("bitrate", {}).get(track.kind)
+    if rate is not None:
+        return rate
+    ticks, size = sum(it[2] for it in track.samples), sum(len(it[4]) for it in track.samples)
+    return 1 if ticks == 0 else max(1, -(-8 * size * track.scale // ticks))
+
+
+def master(films, mapping, settings, ask, honoured):
+    shown = []
+    for number, sequence in enumerate(mapping["sequences"], 1):
+        parts = timeline(mapping, number, ask["window"], ask["tracks"])
+        piece = [piece for _, _, kept in parts for piece in kept][0]
+        tracks = checked(films, piece, exposed_first(films, piece), honoured)
+        shown.append((number, sequence, tracks))
+    group = [it for it in shown if "v" not in it[2]]
+    others = [it for it in shown if "v" in it[2]]
+    if not group or not others:
+        group, others = [], shown
+    lines = ["#EXTM3U"]
+    bases = [sequence.get("label") or sequence.get("language") or "audio" for _, sequence, _ in group]
+    differ = len(set(bases)) == len(bases)
+    for i, ((number, sequence, _), base) in enumerate(zip(group, bases)):
+        language = f',LANGUAGE="{sequence["language"]}"' if "language" in sequence else ""
+        name = base if differ else f"f{number} {base}"
+        first = "YES" if i == 0 else "NO"
+        lines.append(f'#EXT-X-MEDIA:TYPE=AUDIO,GROUP-ID="aud",NAME="{name}"{language},DEFAULT={first},AUTOSELECT=YES,URI="index-f{number}-a1.m3u8"')
+    loudest = max([bandwidth(sequence, tracks["a"]) for _, sequence, tracks in group] or [0])
+    for number, sequence, tracks in others:
+        names = [CODECS[tracks[kind].codec] for kind in "va" if kind in tracks]
+        names += [it for it in dict.fromkeys(CODECS[tracks["a"].codec] for _, _, tracks in group) if it not in names]
+        line = f"#EXT-X-STREAM-INF:BANDWIDTH={sum(bandwidth(sequence, it) for it in tracks.values()) + loudest}"
+        line += ",RESOLUTION=640x360" if "v" in tracks else ""
+        line += f',CODECS="{",".join(names)}"' + (',AUDIO="aud"' if group else "")
+        lines += [line, f"index-f{number}-{'-'.join(f'{kind}1' for kind in 'va' if kind in tracks)}.m3u8"]
+    if settings.get("iframes"):
+        for number, sequence, tracks in shown:
+            if "v" in tracks:
+                rate, name = bandwidth(sequence, tracks["v"]), CODECS[tracks["v"].codec]
+                uri = f"iframes-f{number}-v1.m3u8"
+                lines.append(f'#EXT-X-I-FRAME-STREAM-INF:BANDWIDTH={rate},RESOLUTION=640x360,CODECS="{name}",URI="{uri}"')
+    return ("\n".join(lines) + "\n").encode()
+
+
+def iframe_playlist(keys, ask):
+    longest = max([1] + [rounded(seconds(length)) for _, _, length, _ in keys])
+    lines = ["#EXTM3U", "#EXT-X-VERSION:4", f"#EXT-X-TARGETDURATION:{longest}", "#EXT-X-MEDIA-SEQUENCE:1", "#EXT-X-PLAYLIST-TYPE:VOD"]
+    lines.append("#EXT-X-I-FRAMES-ONLY")
+    before = None
+    for number, index, length, part in keys:
+        if before not in (None, part):
+            lines.append("#EXT-X-DISCONTINUITY")
+        before = part
+        lines += [f"#EXTINF:{seconds(length)},", f"iframe-{number}-{index}-f{ask['sequence']}-{ask['named']}.ts"]
+    return ("\n".join(lines + ["#EXT-X-ENDLIST"]) + "\n").encode()
+
+
+def description(films, mapping, grid, align, ask, honoured):
+    timelines, firsts = [], []
+    for number, sequence in enumerate(mapping["sequences"], 1):
+        parts = timeline(mapping, number, ask["window"], ask["tracks"])
+        first = []
+        for _, _, kept in parts:
+            asked = exposed_first(films, kept[0]) if kept else None
+            tracks = [checked(films, piece, asked, honoured) for piece in kept]
+            first.append(tracks[0] if tracks else None)
+        timelines.append(parts)
+        firsts.append(first)
+    reps, total = {}, 0
+    for s, parts in enumerate(timelines):
+        before = 0
+        for place, (begins, length, kept) in enumerate(parts):
+            kinds = list(firsts[s][place]) if kept else []
+            own = 0
+            for kind in kinds:
+                leads = sum((selected(piece, checked(films, piece, {kind: 1}, honoured), kind, honoured)[kind] for piece in kept), [])
+                cut = Cells(grid, align, parts[place], 0, leads)
+                lasts = length if length is not None else max(0, -(-(cut.end() - begins) // 90))
+                cut.count = own = cells(grid, lasts)
+                total += own
+                if total <= 100000:
+                    rows = []
+                    for k in range(own):
+                        one, two = cut.place(k), cut.place(k + 1)
+                        if one < two:
+                            rows.append((before + k + 1, cut.time_at(one), cut.time_at(two) - cut.time_at(one)))
+                    reps[(s, place, kind)] = (lasts, rows)
+            if not kinds:
+                own = cells(grid, length if length is not None else 0)
+                total += own
+            before += own
+    if total > 100000:
+        raise Refused(42)
+    milliseconds = lambda it: f"{it // 1000}.{it % 1000:03}"
+    lines = []
+    for place in range(len(timelines[0])):
+        begins = timelines[0][place][0]
+        lasts = [parts[place][1] for parts in timelines if parts[place][1] is not None]
+        lasts += [it[0] for (s, at, _), it in reps.items() if at == place and timelines[s][place][1] is None]
+        lasts = max(lasts or [0])
+        lines.append(f'<Period id="{place + 1}" start="PT{seconds(begins)}S" duration="PT{milliseconds(lasts)}S">')
+        video = [(s, "v") for s in range(len(timelines)) if reps.get((s, place, "v"), (0, []))[1]]
+        audio = [(s, "a") for s in range(len(timelines)) if reps.get((s, place, "a"), (0, []))[1]]
+        languages = list(dict.fromkeys(mapping["sequences"][s].get("language") for s, _ in audio))
+        sets = [("video", None, video)] if video else []
+        sets += [("audio", it, [own for own in audio if mapping["sequences"][own[0]].get("language") == it]) for it in languages]
+        for word, language, own in sets:
+            lines.append(f'<AdaptationSet mimeType="{word}/mp4"' + (f' lang="{language}">' if language else ">"))
+            for s, kind in own:
+                lines += representation(mapping["sequences"][s], s + 1, place + 1, begins, firsts[s][place][kind], reps[(s, place, kind)][1])
+            lines.append("</AdaptationSet>")
+        lines.append("</Period>")
+        whole = milliseconds_of_units(begins) + lasts
+    front = [
+        '<?xml version="1.0" encoding="UTF-8"?>',
+        '<MPD xmlns="urn:mpeg:dash:schema:mpd:2011" type="static" '
+        f'mediaPresentationDuration="PT{milliseconds(whole)}S" minBufferTime="PT{milliseconds(grid["step"])}S" '
+        'profiles="urn:mpeg:dash:profile:full:2011">',
+    ]
+    return ("\n".join(front + lines + ["</MPD>"]) + "\n").encode()
+
+
+def milliseconds_of_units(units):
+    return (2 * units + 90) // 180
+
+
+def representation(sequence, number, part, begins, track, rows):
+    name = f"f{number}-{track.kind}1"
+    about = 'width="640" height="360"' if track.kind == "v" else 'audioSamplingRate="48000"'
+    lines = [f'<Representation id="{name}" bandwidth="{bandwidth(sequence, track)}" codecs="{CODECS[track.codec]}" {about}>']
+    lines += [f'<SegmentList timescale="90000" presentationTimeOffset="{begins}">', f'<Initialization sourceURL="init-c{part}-{name}.mp4"/>']
+    lines += ["<SegmentTimeline>", *(f'<S t="{start}" d="{length}"/>' for _, start, length in rows), "</SegmentTimeline>"]
+    lines += [f'<SegmentURL media="fragment-{segment}-{name}.m4s"/>' for segment, _, _ in rows]
+    return lines + ["</SegmentList>", "</Representation>"]
 
 
 # Random requests
@@ -725,8 +900,19 @@ def draw_mapping(draw, names):
     if draw.random() < 0.3:
         mapping["segmentDuration"] = draw.choice([700, 1000, 2000, 10000])
     clips = lambda: [draw_clip(draw, names, "durations" in mapping) for _ in range(count)]
-    mapping["sequences"] = [{"clips": clips()} for _ in range(draw.randint(1, 2))]
+    mapping["sequences"] = [{"clips": clips(), **draw_members(draw)} for _ in range(draw.randint(1, 3))]
     return mapping
+
+
+def draw_members(draw):
+    members = {}
+    if draw.random() < 0.5:
+        members["language"] = draw.choice(["eng", "deu", "fra"])
+    if draw.random() < 0.4:
+        members["label"] = draw.choice(["English", "Ton", "M\u00e4rchen"])
+    if draw.random() < 0.5:
+        members["bitrate"] = {kind: draw.randint(1, 5000000) for kind in "va" if draw.random() < 0.7}
+    return members
 
 
 def draw_settings(draw):
@@ -743,6 +929,8 @@ def draw_settings(draw):
         settings["ignore_edits"] = draw.random() < 0.7
     if draw.random() < 0.4:
         settings["hls_fmp4"] = draw.random() < 0.8
+    if draw.random() < 0.4:
+        settings["iframes"] = draw.random() < 0.8
     return settings
 
 
@@ -777,12 +965,25 @@ def draw_ask(draw, is_mapped, names):
     if draw.random() < 0.05:
         ask["asked"] = draw.choice([{"v": 2}, {"v": 1, "a": 2}])
     named = "-".join(f"{kind}{number}" for kind, number in ask["asked"].items())
-    ask["named"], ask["stream"] = named, False
+    ask["named"], ask["stream"], ask["list"] = named, False, None
     proto, kind = draw.choice(["hls", "dash"]), draw.random()
-    if kind < 0.1:
+    if kind < 0.2:
+        ask["list"] = draw.choice(["master", "mpd", "iframes", "iframe"])
+        if ask["list"] in ("iframes", "iframe"):
+            ask["asked"], ask["named"] = {"v": 1}, "v1"
+        if ask["list"] == "iframe":
+            ask["number"], ask["index"], ask["stream"] = draw.choice([0, 1, 1, 2, 3, 9]), draw.choice([0, 1, 1, 2, 3, 10]), True
+        proto = "dash" if ask["list"] == "mpd" else "hls"
+        leaf = {
+            "master": "master.m3u8",
+            "mpd": "manifest.mpd",
+            "iframes": f"iframes-f{ask['sequence']}-v1.m3u8",
+            "iframe": f"iframe-{ask.get('number')}-{ask.get('index')}-f{ask['sequence']}-v1.ts",
+        }[ask["list"]]
+    elif kind < 0.28:
         ask["part"] = draw.choice([0, 1, 1, 2, 3])
         leaf = f"init-c{ask['part']}-f{ask['sequence']}-{named}.mp4"
-    elif kind < 0.25:
+    elif kind < 0.4:
         proto, leaf = "hls", f"index-f{ask['sequence']}-{named}.m3u8"
     else:
         ask["number"] = draw.choice([0, 1, 1, 2, 2, 3, 4, draw.randint(1, 9), draw.randint(1, 40)])
@@ -811,7 +1012,7 @@ def run_round(program, draw, folder, counts):
     settings, mapped = draw_settings(draw), draw_mapping(draw, names)
     for name, value in (("s.json", settings), ("m.json", mapped)):
         with open(f"{folder}/{name}", "w") as file:
-            json.dump(value, file)
+            json.dump(value, file, ensure_ascii=draw.random() < 0.5)
     for _ in range(60):
         # most of the requests that come to nothing are drawn anew
         for _ in range(draw.choice([1, 8])):
