@@ -1,3 +1,5 @@
+pub mod AnsweredPaths
 pub mod InitLemmas
 pub mod Leaves
 pub mod ListedPaths
+pub mod Sequences

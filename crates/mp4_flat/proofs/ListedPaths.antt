@@ -1,5 +1,5 @@
 -- The listed rows of a path: what is due, and what is read for it.
-use Rattle.std.proofs.Common.{◌≡◌, ◌≢◌, ℕ, Bool, true, false, List, [], ◌++◌, map, Option, Some, None, Result, Ok, Err, refl, sym, ap, ap₂, ◌∙◌, subst, append-nil}
+use Rattle.std.proofs.Common.{◌≡◌, ◌≢◌, ℕ, true, false, List, [], ◌++◌, map, Option, Some, None, Result, Ok, Err, refl, sym, ap, ◌∙◌, subst, append-nil}
 use Rattle.std.specs.Prelude.{codes, ok_or, IsErr}
 use Rattle.std.specs.List.{items_where_true}
 use Rattle.std.specs.Result.{result_map_both}
@@ -12,73 +12,21 @@ use Rattle.vod_types.specs.declared.refusal.Refusal.TheVariants.{NoMemory}
 use Rattle.vod_types.specs.declared.tracks.Asked.{Asked}
 use Rattle.vod_types.specs.Results.{◌>>=◌}
 use Rattle.vod_types.proofs.StepLemmas.{ok_or_ok}
-use Rattle.clip_model.specs.declared.Piece.{Piece}
-use Rattle.clip_model.specs.Timeline.{Timeline}
-use Rattle.segment_model.specs.Grid.{SegmentGrid}
 use Rattle.segment_model.specs.Listing.{ListedSegment}
 use Rattle.list_model.specs.Path.{ask_of, is_local}
-use Rattle.vod_source.specs.Stored.{Files, Read}
+use Rattle.vod_source.specs.Stored.{Read}
 use Rattle.vod_source.specs.Told.{told_with}
 use Rattle.origin_model.specs.Answers.{is_index, path_rows, readable, readable_as}
 use Rattle.origin_model.specs.Lists.{listed_segments}
-use Rattle.origin_model.specs.Plans.{Cutting, pieces_or_none, planned_rows, rows_looks}
 use Rattle.origin_model.specs.Reads as reads
 use Rattle.origin_model.specs.Reads.{ask_reads, for_rows, further_names, looks_of, mapping_reads_by, path_reads, sample_reads, turn_names, turn_pieces, turns}
-use Rattle.origin_model.specs.Requests.{Setup, Asking, asking_of, cutting, timeline_asked}
+use Rattle.origin_model.specs.Requests.{Setup, Asking, asking_of}
 use Rattle.vod_types.specs.declared.segments.Listed.{Listed}
 use Rattle.vod_source.specs.Calls.{AnswersUnlessFailed, LogsReads, Came}
 use Rattle.segment_model.specs.Listing.{listed_view}
-use Rattle.flat_lists.specs.Listings.{rows_turns}
 use Rattle.mp4_flat.specs.Listings.{AreListed, ask_rows, every_path, index_turns}
-use Rattle.flat_segments.specs.Planned.{cutting_of}
 use Rattle.vod_source.proofs.CallLemmas.{logs_then, logs_unmade}
-use Rattle.mp4_flat.proofs.Leaves.{ended}
-
-no_turns : (files : Files) → (turns files [] []).reads ≡ []
-unfolding turns
-no_turns files = refl
-
--- ---- how the parts are cut
-
-pub recut_as : (known : Files) (g h : SegmentGrid) (align other edits honoured : Bool) → g ≡ h → align ≡ other → edits ≡ honoured → cutting_of known g align edits ≡ cutting_of known h other honoured
-recut_as known g h align other edits honoured e f i = ap₂ (λ (g : SegmentGrid) (a : Bool). cutting_of known g a edits) e f ∙ ap (cutting_of known h other) i
-
--- ---- a sequence
-
-module _ {X : Type 0} (view : X → List ListedSegment) (o : Setup) (a : Asking) (sequence : ℕ) (asked : Asked) where
-  abbrev times : Result Timeline Refusal
-  times = timeline_asked o a sequence
-
-  abbrev looks : Timeline → Result (List Piece) Refusal
-  looks t = Ok (rows_looks (cutting o a) asked t)
-
-  sequence_due : listed_segments o a sequence asked ≡ (times >>= planned_rows (cutting o a) asked)
-  unfolding listed_segments
-  sequence_due = refl
-
-  sequence_turned : index_turns o a sequence asked ≡ (turns o.files [] (map (λ p. p.name) (pieces_or_none (times >>= looks)))).reads
-  unfolding turn_pieces
-  sequence_turned = refl
-
-  -- there is no timeline
-  pub sequence_untimed : (e : Refusal) (log : Option (List Read)) → (e ≢ NoMemory → times ≡ Err e) → Came view (Err e) (listed_segments o a sequence asked) (index_turns o a sequence asked) log log
-  sequence_untimed e log h = record {
-    answered = λ known_memory known_store. sequence_due ∙ ap (λ (r : Result Timeline Refusal). r >>= planned_rows (cutting o a) asked) (h known_memory);
-    logged = logs_unmade e (index_turns o a sequence asked) log log refl
-        (λ known_memory known_store. sequence_turned ∙ ap (λ (r : Result Timeline Refusal). (turns o.files [] (map (λ p. p.name) (pieces_or_none (r >>= looks)))).reads) (h known_memory) ∙ no_turns o.files);
-  }
-
-  pub sequence_timed : (t : Timeline) (g : SegmentGrid) (align edits : Bool) (result : Result X Refusal) (log log_now : Option (List Read)) → times ≡ Ok t → cutting_of o.files g align edits ≡ cutting o a
-      → Came view result (planned_rows (cutting_of o.files g align edits) asked t) (rows_turns (cutting_of o.files g align edits) asked t) log log_now
-      → Came view result (listed_segments o a sequence asked) (index_turns o a sequence asked) log log_now
-  sequence_timed t g align edits result log log_now timed same came =
-      let due = sequence_due ∙ ap (λ (r : Result Timeline Refusal). r >>= planned_rows (cutting o a) asked) timed in
-      let turned = sequence_turned ∙ ap (λ (r : Result Timeline Refusal). (turns o.files [] (map (λ p. p.name) (pieces_or_none (r >>= looks)))).reads) timed in
-      let cut = subst (λ (c : Cutting). Came view result (planned_rows c asked t) (rows_turns c asked t) log log_now) same came in
-      record {
-        answered = subst (AnswersUnlessFailed view result) (sym due) cut.answered;
-        logged = subst (λ (all : List Read). LogsReads result all log log_now) (sym turned) cut.logged;
-      }
+use Rattle.mp4_flat.proofs.Leaves.{ended, no_turns}
 
 -- ---- a request
 

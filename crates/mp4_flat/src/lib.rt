@@ -4,8 +4,11 @@
 
 mod init;
 mod listing;
+mod lists;
 mod playlist;
 mod requests;
+mod segments;
+mod sequence;
 
 pub use flat_segments::FlatBody;
 pub use listing::listed;

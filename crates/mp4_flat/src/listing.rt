@@ -16,8 +16,8 @@ ghost use Rattle.segment_model.specs.Listing.{listed_view};
 ghost use Rattle.flat_lists.specs.Listings.{HasPart};
 ghost use Rattle.mp4_flat.specs.Listings.{AreListed, ask_rows as ask_rows_of, every_path, index_turns};
 
+use crate::sequence::SequenceCut;
 use flat_lists::{Asking, asking_of, timeline_rows};
-use flat_segments::Cut;
 use std::alloc::Global;
 use vod_source::Store;
 use vod_types::{Ask, Asked, Leaf, Listed, Refusal, Settings};
@@ -111,19 +111,9 @@ pub(crate) fn sequence_rows<S: Store>(
     ensures later { S.faults files.old ≤ S.faults files.new }
     ensures store_failed { IsErrOf result StoreFailed → Rose (S.faults files.old) (S.faults files.new) }
 {
-    let timeline = match asking.timeline(alloc, root, sequence) {
-        Ok(timeline) => timeline,
+    let cut = match SequenceCut::new(alloc, settings, root, asking, sequence) {
+        Ok(cut) => cut,
         Err(refusal) => return Err(refusal),
     };
-    let grid = match asking.grid(alloc, settings) {
-        Ok(grid) => grid,
-        Err(refusal) => return Err(refusal),
-    };
-    let cut = Cut {
-        timeline: &timeline,
-        grid: &grid,
-        align: settings.align,
-        edits: !settings.ignore_edits,
-    };
-    timeline_rows(alloc, files, cut, asked)
+    timeline_rows(alloc, files, cut.cut(), asked)
 }

@@ -4,30 +4,28 @@ ghost use Rattle.std.specs.Prelude.{◌≡◌, ◌≢◌, ◌≤◌, true, IfSom
 ghost use Rattle.std.specs.Int.{IsInRange};
 ghost use Rattle.vod_source.specs.Causes.{Rose};
 ghost use Rattle.vod_types.specs.declared.refusal.Refusal.TheVariants.{NoMemory, StoreFailed, Unsupported};
-ghost use Rattle.vod_types.specs.declared.paths.Leaf.TheVariants as leaves;
-ghost use Rattle.list_model.specs.Names.{IsAsked, IsLeafOf};
+ghost use Rattle.list_model.specs.Names.{IsLeafOf};
 ghost use Rattle.list_model.specs.Path.{is_dash};
 ghost use Rattle.origin_model.specs.Answers.{readable};
 ghost use Rattle.origin_model.specs.Requests.{target_names};
-ghost use Rattle.flat_lists.specs.Asked.{asking_view, setup_of};
+ghost use Rattle.flat_lists.specs.Asked.{setup_of};
 ghost use Rattle.mp4_flat.specs.Built.{built_paths, is_built_leaf};
-ghost use Rattle.mp4_flat.specs.Flat.{IsFlatAnswer, IsAskAnswer, IsLeafAnswer};
+ghost use Rattle.mp4_flat.specs.Flat.{IsFlatAnswer, IsAskAnswer};
 
-use crate::init::init_of_part;
-use crate::listing::sequence_rows;
-use crate::playlist::playlist_of;
-use flat_lists::{Asking, asking_of};
-use flat_segments::{Cut, FlatBody, segment_body, segment_rows};
+use crate::lists::{description_answer, iframes_answer, index_answer, master_answer};
+use crate::segments::{iframe_answer, init_answer, segment_answer};
+use flat_lists::asking_of;
+use flat_segments::FlatBody;
 use std::alloc::Global;
 use vod_source::Store;
-use vod_types::{Ask, Asked, Form, Leaf, Name, Refusal, Settings};
+use vod_types::{Ask, Leaf, Name, Refusal, Settings};
 use vod_urls::read_path;
 
 /// Answers a path with the settings `settings`, over the files below `root`.
 ///
-/// It is refused by the first cause in the order of refusals; a path of the grammar whose form isn't built yet is refused
-/// as `Unsupported`, name `form`, before any call on the store. A failure of the store is `StoreFailed`, want of memory
-/// `NoMemory`.
+/// It is refused by the first cause in the order of refusals; a path of the grammar whose form isn't built yet, that of a
+/// clip, is refused as `Unsupported`, name `form`, before any call on the store. A failure of the store is `StoreFailed`,
+/// want of memory `NoMemory`.
 pub fn answer<S: Store>(
     alloc: Global,
     files: &mut S,
@@ -76,9 +74,14 @@ fn is_built_leaf(leaf: Leaf) -> bool
     ensures { result ≡ is_built_leaf leaf }
 {
     match leaf {
-        Leaf::Index { .. } | Leaf::Init { .. } | Leaf::Segment { .. } => true,
-        Leaf::Master | Leaf::Mpd | Leaf::Iframes { .. } | Leaf::Iframe { .. } | Leaf::Clip { .. } =>
-            false,
+        Leaf::Master
+        | Leaf::Mpd
+        | Leaf::Index { .. }
+        | Leaf::Init { .. }
+        | Leaf::Segment { .. }
+        | Leaf::Iframes { .. }
+        | Leaf::Iframe { .. } => true,
+        Leaf::Clip { .. } => false,
     }
 }
 
@@ -105,6 +108,8 @@ fn answer_ask<S: Store>(
         Err(refusal) => return Err(refusal),
     };
     match leaf {
+        Leaf::Master => master_answer(alloc, files, settings, root, &asking),
+        Leaf::Mpd => description_answer(alloc, files, settings, root, &asking),
         Leaf::Index { sequence, asked } => {
             index_answer(alloc, files, settings, root, &asking, sequence, asked)
         }
@@ -121,104 +126,17 @@ fn answer_ask<S: Store>(
         } => segment_answer(
             alloc, files, settings, root, &asking, number, sequence, asked, form,
         ),
-        Leaf::Master | Leaf::Mpd | Leaf::Iframes { .. } | Leaf::Iframe { .. } | Leaf::Clip { .. } =>
-            Err(unbuilt(alloc)),
+        Leaf::Iframes { sequence, video } => {
+            iframes_answer(alloc, files, settings, root, &asking, sequence, video)
+        }
+        Leaf::Iframe {
+            number,
+            index,
+            sequence,
+            video,
+        } => iframe_answer(
+            alloc, files, settings, root, &asking, number, index, sequence, video,
+        ),
+        Leaf::Clip { .. } => Err(unbuilt(alloc)),
     }
-}
-
-// Answers a request for a media playlist.
-fn index_answer<S: Store>(
-    alloc: Global,
-    files: &mut S,
-    settings: &Settings,
-    root: &str,
-    asking: &Asking,
-    sequence: u32,
-    asked: Asked,
-) -> Result<FlatBody, Refusal>
-    requires sequence { sequence ≤ 9999 }
-    requires asked { IsAsked asked }
-    ensures told { IfSome (S.content files.old) (λ known.
-        IsLeafAnswer (setup_of settings.now root.now known) (asking_view asking.now) (leaves.Index sequence asked) result
-        (S.log files.old) (S.log files.new)) }
-    ensures content { S.content files.new ≡ S.content files.old }
-    ensures later { S.faults files.old ≤ S.faults files.new }
-    ensures store_failed { IsErrOf result StoreFailed → Rose (S.faults files.old) (S.faults files.new) }
-{
-    let rows = match sequence_rows(alloc, files, settings, root, asking, sequence, asked) {
-        Ok(rows) => rows,
-        Err(refusal) => return Err(refusal),
-    };
-    match playlist_of(alloc, &rows, sequence, asked, settings.hls_fmp4) {
-        Ok(bytes) => Ok(FlatBody { bytes, cut: None }),
-        Err(refusal) => Err(refusal),
-    }
-}
-
-// Answers a request for an initialization segment.
-fn init_answer<S: Store>(
-    alloc: Global,
-    files: &mut S,
-    settings: &Settings,
-    root: &str,
-    asking: &Asking,
-    part: u32,
-    sequence: u32,
-    asked: Asked,
-) -> Result<FlatBody, Refusal>
-    ensures told { IfSome (S.content files.old) (λ known.
-        IsLeafAnswer (setup_of settings.now root.now known) (asking_view asking.now) (leaves.Init part sequence asked) result
-        (S.log files.old) (S.log files.new)) }
-    ensures content { S.content files.new ≡ S.content files.old }
-    ensures later { S.faults files.old ≤ S.faults files.new }
-    ensures store_failed { IsErrOf result StoreFailed → Rose (S.faults files.old) (S.faults files.new) }
-{
-    let timeline = match asking.timeline(alloc, root, sequence) {
-        Ok(timeline) => timeline,
-        Err(refusal) => return Err(refusal),
-    };
-    match init_of_part(alloc, files, &timeline, part, !settings.ignore_edits, asked) {
-        Ok(bytes) => Ok(FlatBody { bytes, cut: None }),
-        Err(refusal) => Err(refusal),
-    }
-}
-
-// Answers a request for a segment.
-fn segment_answer<S: Store>(
-    alloc: Global,
-    files: &mut S,
-    settings: &Settings,
-    root: &str,
-    asking: &Asking,
-    number: u32,
-    sequence: u32,
-    asked: Asked,
-    form: Form,
-) -> Result<FlatBody, Refusal>
-    ensures told { IfSome (S.content files.old) (λ known.
-        IsLeafAnswer (setup_of settings.now root.now known) (asking_view asking.now) (leaves.Segment number sequence asked form) result
-        (S.log files.old) (S.log files.new)) }
-    ensures content { S.content files.new ≡ S.content files.old }
-    ensures later { S.faults files.old ≤ S.faults files.new }
-    ensures store_failed { IsErrOf result StoreFailed → Rose (S.faults files.old) (S.faults files.new) }
-{
-    let timeline = match asking.timeline(alloc, root, sequence) {
-        Ok(timeline) => timeline,
-        Err(refusal) => return Err(refusal),
-    };
-    let grid = match asking.grid(alloc, settings) {
-        Ok(grid) => grid,
-        Err(refusal) => return Err(refusal),
-    };
-    let cut = Cut {
-        timeline: &timeline,
-        grid: &grid,
-        align: settings.align,
-        edits: !settings.ignore_edits,
-    };
-    let rows = match segment_rows(alloc, files, cut, asked, number, form) {
-        Ok(rows) => rows,
-        Err(refusal) => return Err(refusal),
-    };
-    segment_body(alloc, files, number, form, asked, rows)
 }

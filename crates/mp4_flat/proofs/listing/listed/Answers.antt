@@ -2,7 +2,7 @@ use Rattle.std.proofs.Common.{Vec, Global, []}
 use Rattle.vod_types.specs.declared.segments.Listed.{Listed}
 use Rattle.flat_lists.specs.Asked.{setup_of}
 use Rattle.vod_source.proofs.CallLemmas.{told_all, told_with_all}
-use Rattle.mp4_flat.proofs.Leaves.{few_names}
+use Rattle.mp4_flat.proofs.AnsweredPaths.{few_names}
 use Rattle.mp4_flat.proofs.ListedPaths.{path_refused, other_refused, path_answered, index_is_readable}
 use Rattle.mp4_flat.proofs.listing.listed.Goals as goal
 

@@ -1,7 +1,7 @@
 use Rattle.std.proofs.Common.{sym, ◌∙◌, []}
 use Rattle.flat_lists.specs.Asked.{setup_of}
 use Rattle.vod_source.proofs.CallLemmas.{told_all, told_with_all}
-use Rattle.mp4_flat.proofs.Leaves.{built_is_readable, built_leaf, few_names, form_refused, leaf_in-range, path_answered, path_refused}
+use Rattle.mp4_flat.proofs.AnsweredPaths.{built_is_readable, built_leaf, few_names, form_refused, leaf_in-range, path_answered, path_refused}
 use Rattle.mp4_flat.proofs.requests.answer.Goals as goal
 
 pub returns-in-Err-clause-told : goal.returns-in-Err-clause-told

@@ -2,7 +2,7 @@ use Rattle.std.proofs.Common.{ap, not, refl}
 use Rattle.flat_lists.specs.Asked.{asking_view, setup_of}
 use Rattle.vod_source.proofs.CallLemmas.{told_all, told_with_all}
 use Rattle.mp4_flat.proofs.Leaves.{init_err, init_ok, init_untimed}
-use Rattle.mp4_flat.proofs.requests.init_answer.Goals as goal
+use Rattle.mp4_flat.proofs.segments.init_answer.Goals as goal
 
 pub returns-in-Err-clause-told : goal.returns-in-Err-clause-told
 returns-in-Err-clause-told g c =
