@@ -41,12 +41,7 @@ impl Asking {
     ghost use Rattle.segment_model.specs.Grid.{grid_of};
 
     /// The timeline of a sequence within the window.
-    pub fn timeline(
-        &self,
-        alloc: Global,
-        root: &str,
-        sequence: u32,
-    ) -> Result<Timeline, Refusal>
+    pub fn timeline(&self, alloc: Global, root: &str, sequence: u32) -> Result<Timeline, Refusal>
         ensures answers { Answers (λ t. t) result (timeline_of root.now self.now.mapping sequence self.now.window self.now.tracks) }
         ensures not_failed { IfErr result (λ refusal. refusal ≢ StoreFailed) }
     {
