@@ -23,7 +23,6 @@ use Rattle.origin_model.specs.Requests.{Setup, Asking, timeline_asked}
 use Rattle.flat_lists.specs.declared.shown.Shown.{Shown}
 use Rattle.flat_lists.specs.Listings.{leaf_turns, master_due}
 use Rattle.flat_lists.specs.Shown.{all_shown, first_names, iframe_variant_by, rendition_by, shown_by, shown_due, shown_turns, text_by, variant_by}
-use Rattle.flat_lists.specs.Steps.{names_through}
 
 -- ---- lists
 

@@ -11,7 +11,7 @@ use Rattle.vod_source.specs.Stored.{Files, Read}
 use Rattle.vod_source.specs.Told.{told_with}
 use Rattle.vod_source.proofs.CallLemmas.{LogsErr, logs_then, logs_ended}
 use Rattle.vod_source.proofs.ToldLemmas.{told_with-nil, told_with-more, GrewByPrefix-whole}
-use Rattle.origin_model.specs.Reads.{Cache, Turned, turn, turns}
+use Rattle.origin_model.specs.Reads.{Cache, turn, turns}
 use Rattle.flat_samples.specs.Movies.{HeldMovie, names_held}
 use Rattle.flat_lists.specs.Steps.{IsStep, IsPath, names_through}
 

@@ -1,11 +1,11 @@
 -- A sequence as a master playlist shows it: what is answered and read in each case.
-use Rattle.std.proofs.Common.{◌≡◌, ◌≢◌, ℕ, suc, ◌+◌, ◌-◌, ◌<◌, ◌≤◌, ◌^◌, Bool, not, arith, List, [], ◌∷◌, length, map, take, Option, Some, None, Result, Ok, Err, IsErrOf, refl, sym, ap, ◌∙◌, subst, append-nil, slice_get}
-use Rattle.std.specs.Prelude.{IsSome, ◌↔◌, ok_or, option_map, is_err}
+use Rattle.std.proofs.Common.{◌≡◌, ◌≢◌, ℕ, suc, ◌+◌, ◌-◌, ◌<◌, ◌≤◌, ◌^◌, Bool, arith, List, [], ◌∷◌, map, take, Option, Some, None, Result, Ok, Err, refl, sym, ap, ◌∙◌, subst, append-nil, slice_get}
+use Rattle.std.specs.Prelude.{IsSome, ◌↔◌, ok_or, option_map}
 use Rattle.std.specs.Int.{IsInRange}
 use Rattle.std.specs.List.{range_with_len}
 use Rattle.std.proofs.lemmas.Option.{same_Some}
 use Rattle.vod_types.specs.declared.refusal.Refusal.{Refusal}
-use Rattle.vod_types.specs.declared.refusal.Refusal.TheVariants.{NoMemory, StoreFailed, NothingSelected}
+use Rattle.vod_types.specs.declared.refusal.Refusal.TheVariants.{NoMemory, NothingSelected}
 use Rattle.vod_types.specs.declared.tracks.Asked.{Asked}
 use Rattle.vod_types.specs.declared.tracks.Kind.{Kind}
 use Rattle.vod_types.specs.declared.tracks.Kind.TheVariants.{Video, Audio}
@@ -21,7 +21,7 @@ use Rattle.list_model.specs.Playlist.{IsVariant}
 use Rattle.vod_source.specs.Calls.{LogsReads}
 use Rattle.vod_source.specs.Stored.{Files, Read}
 use Rattle.vod_source.specs.Told.{told_with}
-use Rattle.vod_source.proofs.CallLemmas.{answers_unless, logs_all, logs_unmade, logs_none}
+use Rattle.vod_source.proofs.CallLemmas.{answers_unless, logs_all, logs_unmade}
 use Rattle.origin_model.specs.Lists.{ShownSequence, aac_of, asked_first, checked_first, first_asked, first_track, shown_sequence}
 use Rattle.origin_model.specs.Loaded.{CheckedPiece, loaded, checked}
 use Rattle.origin_model.specs.Plans.{pieces_or_none}
@@ -30,7 +30,7 @@ use Rattle.origin_model.specs.Requests.{Setup, Asking, honours_edits, timeline_a
 use Rattle.origin_model.specs.Writable.{IsSoundIf, IsSoundPiece}
 use Rattle.flat_samples.specs.Checks.{checked_in}
 use Rattle.flat_samples.specs.Movies.{HeldMovie, AreTrue, IsTurn, names_held}
-use Rattle.flat_samples.proofs.CheckLemmas.{checked-in, not_loaded}
+use Rattle.flat_samples.proofs.CheckLemmas.{checked-in}
 use Rattle.flat_lists.specs.declared.shown.Shown.{Shown}
 use Rattle.flat_lists.specs.Shown.{IsShown, first_names, shown_by, shown_by_piece, shown_due, shown_in_movie, shown_of, variant_by}
 use Rattle.flat_lists.specs.Steps.{IsPath, IsStep, NamesAfterTurns}

@@ -1,10 +1,8 @@
 use Rattle.std.proofs.Common.{◌≡◌, ℕ, ◌+◌, ◌<◌, ◌≤◌, Bool, cond, List, [], ◌∷◌, ◌++◌, length, All, refl, sym, ap, ◌∙◌, subst, arith}
-use Rattle.std.specs.List.{range_with_len}
 use Rattle.std.proofs.lemmas.List.Elements.{All-nil, All-cons, All-append}
 use Rattle.vod_source.proofs.CallLemmas.{told_all, told_with_all, told_with_other}
 use Rattle.flat_lists.specs.declared.shown.Shown.{Shown}
-use Rattle.flat_lists.specs.Asked.{asking_view, setup_of}
-use Rattle.flat_lists.specs.Shown.{IsShown, first_names, shown_due}
+use Rattle.flat_lists.specs.Shown.{IsShown}
 use Rattle.flat_lists.proofs.Paths.{path_on, path_refused, path_stopped, path_whole}
 use Rattle.flat_lists.proofs.ShownLemmas.{numbers_from, no_numbers, sequences_begin}
 use Rattle.flat_lists.proofs.shown.shown_sequences.Goals as goal

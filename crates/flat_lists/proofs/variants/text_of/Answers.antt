@@ -1,4 +1,4 @@
-use Rattle.std.proofs.Common.{List, ℕ, ◌++◌, ap, ◌∙◌}
+use Rattle.std.proofs.Common.{◌∙◌}
 use Rattle.flat_lists.proofs.VariantLemmas.{text-alone, text-whole}
 use Rattle.flat_lists.proofs.variants.text_of.Goals as goal
 
