@@ -46,9 +46,10 @@ fragment_reads rows = flat_map (row_reads (flat_rows_view rows)) (rows.video.ite
 
 abbrev pub stream_shown : Files → Stream → FlatRows → List ℕ × Option (ℕ × ℕ)
 stream_shown files s rows =
-    let view = flat_rows_view rows in
-    (rows_bytes s.lead s.asked s.hevc (payload_of files view s.hevc) (good_rows files view s.hevc (all_samples view)),
-    option_map (λ r. (r.row.file, r.row.number)) (first_bad files view s.hevc (all_samples view)))
+    let view = flat_rows_view rows in (
+      rows_bytes s.lead s.asked s.hevc (payload_of files view s.hevc) (good_rows files view s.hevc (all_samples view)),
+      option_map (λ r. (r.row.file, r.row.number)) (first_bad files view s.hevc (all_samples view)),
+    )
 
 abbrev pub stream_reads : Files → Bool → FlatRows → List Read
 stream_reads files hevc rows =

@@ -9,6 +9,6 @@ pub returns-in-Ok-clause-told : goal.returns-in-Ok-clause-told
 returns-in-Ok-clause-told g c =
     subst
     (λ (w : Writing). IfSome (g.S.Store.content c.args.files.now) (λ known.
-        Came flat_shown c.written.result (Ok (stream_shown known w.stream c.args.rows)) (stream_reads known w.stream.hevc c.args.rows)
-        (g.S.Store.log c.args.files.now) (g.S.Store.log c.written.new.files)))
+    Came flat_shown c.written.result (Ok (stream_shown known w.stream c.args.rows)) (stream_reads known w.stream.hevc c.args.rows)
+    (g.S.Store.log c.args.files.now) (g.S.Store.log c.written.new.files)))
     c.in-Ok.ensures c.written.ensures.told
