@@ -1,9 +1,9 @@
 //! The sync samples of the lead tracks of parts, cell by cell.
 
-ghost use Rattle.std.specs.Prelude.{List, ◌≡◌, ◌++◌, ◌+◌, ◌-◌, ◌≤◌, ◌<◌, ◌^◌, [], ◌∷◌, All, IfErr, IfOk, OnOk, ℤ, cond, length, map, slice_range, sum, take, drop, unsigned_abs};
+ghost use Rattle.std.specs.Prelude.{List, ◌≡◌, ◌++◌, ◌+◌, ◌-◌, ◌≤◌, ◌<◌, ◌^◌, [], ◌∷◌, All, IfErr, IfOk, OnOk, ℤ, cond, length, map, sum, unsigned_abs};
 ghost use Rattle.vod_types.specs.declared.refusal.Refusal.TheVariants.{NoMemory};
 ghost use Rattle.clip_model.specs.IsTimeline.{IsPart, IsTime};
-ghost use Rattle.segment_model.specs.Iframes.{iframes, lone_iframes, segment_iframes};
+ghost use Rattle.segment_model.specs.Iframes.{iframes, lone_iframes};
 ghost use Rattle.segment_model.specs.Laws.{PlaceRises};
 ghost use Rattle.segment_model.specs.Timeline.{SourcePiece, lead_end};
 ghost use Rattle.flat_samples.specs.Rows.{timed_view, ArePlacedRows, IsPlacedRow};

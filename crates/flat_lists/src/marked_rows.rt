@@ -1,8 +1,7 @@
 //! The rows of I-frames.
 
-ghost use Rattle.std.specs.Prelude.{◌≡◌, ◌≢◌, ◌≤◌, ◌<◌, ◌^◌, not, ◌==◌, All, Err, IfErr, IfOk, IfSome, IsErrOf, length, map, slice_get, unsigned_abs};
-ghost use Rattle.std.specs.Bool.{then_some};
-ghost use Rattle.vod_types.specs.declared.refusal.Refusal.TheVariants.{NoMemory, StoreFailed, TooManyIframes};
+ghost use Rattle.std.specs.Prelude.{◌≡◌, ◌≢◌, ◌≤◌, ◌<◌, ◌^◌, IfErr, IfOk, IfSome, length, unsigned_abs};
+ghost use Rattle.vod_types.specs.declared.refusal.Refusal.TheVariants.{NoMemory, TooManyIframes};
 ghost use Rattle.flat_lists.specs.Marks.{end_of_mark, row_of_mark, rows_of_marks, AreMarks};
 
 use crate::iframe_marks::Mark;

@@ -1,6 +1,6 @@
 -- The body of a segment by its form, in the words of the writers.
-use Rattle.std.proofs.Common.{◌≡◌, ℕ, Bool, not, List, [], ◌∷◌, ◌++◌, map, Option, Some, None, Result, Ok, refl, sym, ap, ap₂, ◌∙◌, subst}
-use Rattle.std.specs.Prelude.{IfSome, find, flat_map, option_map}
+use Rattle.std.proofs.Common.{◌≡◌, ℕ, List, [], ◌∷◌, ◌++◌, map, Option, Some, None, Result, Ok, refl, sym, ap, ap₂, ◌∙◌, subst}
+use Rattle.std.specs.Prelude.{IfSome, flat_map, option_map}
 use Rattle.std.specs.Option.{option_map_or}
 use Rattle.std.proofs.lemmas.Grind.{flat_map-append}
 use Rattle.vod_types.specs.declared.refusal.Refusal.{Refusal}
@@ -11,7 +11,7 @@ use Rattle.vod_types.specs.declared.tracks.Asked.{Asked}
 use Rattle.vod_types.specs.declared.tracks.Kind.{Kind}
 use Rattle.vod_types.specs.declared.tracks.Kind.TheVariants.{Video, Audio}
 use Rattle.media_model.specs.WritingOrder.{TrackRow, of_track}
-use Rattle.list_model.specs.Reply.{End, whole, bad_nal}
+use Rattle.list_model.specs.Reply.{whole, bad_nal}
 use Rattle.vod_source.specs.Calls.{Came}
 use Rattle.vod_source.specs.Stored.{Files, Read}
 use Rattle.fmp4_writer.specs.Samples.{row_reads}

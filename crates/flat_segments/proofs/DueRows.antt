@@ -110,7 +110,7 @@ mixed-is Ts [] = refl
 mixed-is Ts (c ∷ cs) = mixed_with-is c cs
 mixed-is Fmp4 cs = refl
 
-front-is : (number : ℕ) (form : Form) (cs : List CheckedPiece) (rows : TrackRows) → front_fault number form cs rows ≡ front_in number form (map file_of cs) rows
+pub front-is : (number : ℕ) (form : Form) (cs : List CheckedPiece) (rows : TrackRows) → front_fault number form cs rows ≡ front_in number form (map file_of cs) rows
 unfolding front_fault front_in
 front-is number form cs rows = ap (λ (mixed : Option Refusal). option_or (none_fault number rows) (option_or mixed (many_fault rows))) (mixed-is form cs)
 

@@ -8,12 +8,15 @@ use Rattle.vod_types.specs.declared.refusal.Refusal.TheVariants as refusals
 use Rattle.vod_types.specs.declared.segments.Form.{Form}
 use Rattle.vod_types.specs.declared.segments.Form.TheVariants.{Ts, Fmp4}
 use Rattle.vod_types.specs.declared.tracks.Asked.{Asked}
+use Rattle.vod_types.specs.Lists.{nth_from_one}
 use Rattle.vod_types.specs.Results.{◌>>◌, unless}
 use Rattle.segment_model.specs.Timeline.{TrackRows}
 use Rattle.media_model.specs.WritingOrder.{TrackRow}
+use Rattle.segment_model.specs.Iframes.{sync_rows}
+use Rattle.origin_model.specs.Iframes.{alone, checked_iframe}
 use Rattle.origin_model.specs.Loaded.{CheckedPiece}
 use Rattle.origin_model.specs.Samples.{segment_plan, in_order, video_type, has_hevc, mixed_codecs, front_fault, sample_fault, name_at, size_at, greatest_size, is_backward, sizes_of, checked_rows}
-use Rattle.vod_source.proofs.CallLemmas.{NotFailed}
+use Rattle.vod_source.proofs.CallLemmas.{NotFailed, not_failed-found, not_failed-step}
 
 abbrev Other : Refusal → Type 0
 Other r = r ≢ refusals.StoreFailed
@@ -72,3 +75,10 @@ rows_not_failed number form asked pieces rows =
     unless_other _ _ (front_other number form pieces rows)
     (unless_other _ _ (first_other (sample_fault form pieces) (sample_other form pieces) ordered)
     (unless_other _ _ (if_other (nat_lt 2130706432 (sizes_of ordered)) (refusals.SegmentTooLarge (sizes_of ordered)) (λ e. absurd cc)) tt))
+
+pub iframe_not_failed : (number index : ℕ) (asked : Asked) (pieces : List CheckedPiece) (rows : TrackRows) → NotFailed (checked_iframe number index asked pieces rows)
+unfolding checked_iframe
+iframe_not_failed number index asked pieces rows =
+    unless_other _ _ (front_other number Ts pieces rows)
+    (not_failed-step _ _ (not_failed-found (nth_from_one (sync_rows rows.lead) index) (refusals.NoIframe index (length (sync_rows rows.lead))) (λ e. absurd cc))
+    (λ row. unless_other _ _ (first_other (sample_fault Ts pieces) (sample_other Ts pieces) (in_order Ts (alone asked pieces row).rows)) tt))

@@ -9,5 +9,6 @@ pub mod SoundRows
 pub mod CellRows
 pub mod Places
 pub mod Failures
+pub mod LoneIframes
 pub mod SegmentCalls
 pub mod BodyLemmas

@@ -56,7 +56,7 @@ first_of_both : {A : Type 0} (xs ys : List A) → slice_get (xs ++ ys) 0 ≡ opt
 first_of_both [] ys = refl
 first_of_both (x ∷ xs) ys = refl
 
-first_of_cons : {A : Type 0} (o : Option A) (xs : List A) → slice_get (cons_option o xs) 0 ≡ option_or o (slice_get xs 0)
+pub first_of_cons : {A : Type 0} (o : Option A) (xs : List A) → slice_get (cons_option o xs) 0 ≡ option_or o (slice_get xs 0)
 first_of_cons None xs = refl
 first_of_cons (Some x) xs = refl
 

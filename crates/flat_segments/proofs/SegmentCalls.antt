@@ -7,7 +7,6 @@ use Rattle.std.proofs.lemmas.Option.{same_Some, slice_get_read}
 use Rattle.vod_types.specs.declared.refusal.Refusal.{Refusal}
 use Rattle.vod_types.specs.declared.refusal.Refusal.TheVariants as refusals
 use Rattle.vod_types.specs.declared.refusal.Refusal.TheVariants.{StoreFailed}
-use Rattle.vod_types.specs.declared.segments.Form.{Form}
 use Rattle.vod_types.specs.declared.tracks.Asked.{Asked}
 use Rattle.vod_types.specs.Lists.{from_first, through_first}
 use Rattle.vod_types.specs.Results.{◌>>=◌, ◌>>◌, each_in_turn, Answers}
@@ -21,16 +20,15 @@ use Rattle.segment_model.specs.Needed.{begins, needed_pieces, skipped}
 use Rattle.segment_model.specs.Timeline.{SourcePiece, TrackRows, timeline, lead_end}
 use Rattle.vod_source.specs.Stored.{Files, Read}
 use Rattle.origin_model.specs.Loaded.{CheckedPiece, checked}
-use Rattle.origin_model.specs.Plans.{Cutting, Cell, counts, few_cells, cell_of, located_cell, segment_pieces, planned_segment, pieces_or_none}
+use Rattle.origin_model.specs.Plans.{Cutting, Cell, counts, few_cells, cell_of, located_cell, segment_pieces, pieces_or_none}
 use Rattle.origin_model.specs.Reads.{turns}
-use Rattle.origin_model.specs.Samples.{SegmentPlan, checked_rows}
+use Rattle.origin_model.specs.Samples.{SegmentPlan}
 use Rattle.origin_model.specs.Sources.{is_declared, part_pieces, source_of, source_part, source_piece}
 use Rattle.origin_model.proofs.NeededFiles.{ends_after-source, needed_by-declared}
 use Rattle.origin_model.proofs.PieceOrder.{no_length, undeclared_part}
-use Rattle.origin_model.proofs.WritablePlans.{plan_is_writable}
 use Rattle.vod_source.specs.Calls.{AnswersUnlessFailed, LogsReads, Came}
 use Rattle.flat_segments.specs.Needed.{AreLooks, AreOfPart, AreOfPieces, AreNeeded, looked_names, stops}
-use Rattle.flat_segments.specs.Planned.{cutting_of, declared_counts, piece_ends_after, place_among, segment_turns}
+use Rattle.flat_segments.specs.Planned.{cutting_of, declared_counts, form_of, piece_ends_after, place_among, planned_wanted, segment_turns, wanted_rows}
 use Rattle.flat_samples.specs.Rows.{part_rows}
 use Rattle.flat_segments.specs.Cells.{part_grid_of}
 use Rattle.flat_segments.specs.RowFaults.{EndsLow}
@@ -39,36 +37,37 @@ use Rattle.flat_segments.specs.declared.cells.PartCells.{PartCells}
 use Rattle.flat_segments.specs.declared.needed.Needed.{Needed}
 use Rattle.flat_segments.specs.declared.needed.NeededFile.{NeededFile}
 use Rattle.flat_segments.specs.declared.rows.FlatRows.{FlatRows}
+use Rattle.flat_segments.specs.declared.segment.Wanted.{Wanted}
 use Rattle.vod_source.proofs.CallLemmas.{refusal-not_failed, logs_all, logs_none}
-use Rattle.flat_segments.proofs.Failures.{rows_not_failed}
+use Rattle.flat_segments.proofs.LoneIframes.{wanted_not_failed, wanted_writable}
 use Rattle.flat_segments.proofs.SoundRows.{writable_by}
 use Rattle.flat_segments.proofs.Counts.{counts_are, seen_none, sources_are}
 
 -- ---- the rows of a cell
 
-pub cell_not_failed : (r : Result FlatRows Refusal) (number : ℕ) (form : Form) (asked : Asked) (pieces : List CheckedPiece) (rows : TrackRows) → Answers flat_plan r (checked_rows number form asked pieces rows)
+pub cell_not_failed : (r : Result FlatRows Refusal) (number : ℕ) (wanted : Wanted) (asked : Asked) (pieces : List CheckedPiece) (rows : TrackRows) → Answers flat_plan r (wanted_rows number wanted asked pieces rows)
     → IfErr r (λ refusal. refusal ≢ StoreFailed)
-cell_not_failed (Ok found) number form asked pieces rows due = tt
-cell_not_failed (Err e) number form asked pieces rows due = refusal-not_failed (checked_rows number form asked pieces rows) e (rows_not_failed number form asked pieces rows) due
+cell_not_failed (Ok found) number wanted asked pieces rows due = tt
+cell_not_failed (Err e) number wanted asked pieces rows due = refusal-not_failed (wanted_rows number wanted asked pieces rows) e (wanted_not_failed number wanted asked pieces rows) due
 
 -- what is answered for the rows of a cell is what is due for its pieces
-pub cell_answers : (number : ℕ) (form : Form) (asked : Asked) (g : PartGrid) (k : ℕ) (n : Needed) (rows : TrackRows) → rows ≡ lone_cell g (part_rows n.rows) k → (r : Result FlatRows Refusal)
-    → ((pieces : List CheckedPiece) → map file_of pieces ≡ map facts_of n.files.items → Answers flat_plan r (checked_rows number form asked pieces rows))
-    → (pieces : List CheckedPiece) → AreNeeded pieces n → Answers flat_plan r (checked_rows number form asked pieces (lone_cell g (timeline (map source_piece pieces)) k))
-cell_answers number form asked g k n rows is r answers pieces needed =
-    subst (λ (rows : TrackRows). Answers flat_plan r (checked_rows number form asked pieces rows)) (is ∙ ap (λ (rows : TrackRows). lone_cell g rows k) needed.rows) (answers pieces (sym needed.files))
+pub cell_answers : (number : ℕ) (wanted : Wanted) (asked : Asked) (g : PartGrid) (k : ℕ) (n : Needed) (rows : TrackRows) → rows ≡ lone_cell g (part_rows n.rows) k → (r : Result FlatRows Refusal)
+    → ((pieces : List CheckedPiece) → map file_of pieces ≡ map facts_of n.files.items → Answers flat_plan r (wanted_rows number wanted asked pieces rows))
+    → (pieces : List CheckedPiece) → AreNeeded pieces n → Answers flat_plan r (wanted_rows number wanted asked pieces (lone_cell g (timeline (map source_piece pieces)) k))
+cell_answers number wanted asked g k n rows is r answers pieces needed =
+    subst (λ (rows : TrackRows). Answers flat_plan r (wanted_rows number wanted asked pieces rows)) (is ∙ ap (λ (rows : TrackRows). lone_cell g rows k) needed.rows) (answers pieces (sym needed.files))
 
 -- rows of pieces of a part can be written
-pub cell_writable : (number : ℕ) (form : Form) (asked : Asked) (g : PartGrid) (k : ℕ) (n : Needed) (of : AreOfPart asked n) (r : Result FlatRows Refusal)
-    → Answers flat_plan r (checked_rows number form asked of.pieces.1.checked (lone_cell g (timeline (map source_piece of.pieces.1.checked)) k))
+pub cell_writable : (number : ℕ) (wanted : Wanted) (asked : Asked) (g : PartGrid) (k : ℕ) (n : Needed) (of : AreOfPart asked n) (r : Result FlatRows Refusal)
+    → Answers flat_plan r (wanted_rows number wanted asked of.pieces.1.checked (lone_cell g (timeline (map source_piece of.pieces.1.checked)) k))
     → IfOk r (λ rows. All EndsLow rows.video.items) → IfOk r (λ rows. All EndsLow rows.audio.items) → IfOk r (λ rows. rows.files ≡ n.files)
-    → IfOk r (λ rows. (content : Option Files) → IfSome content (λ known. SizesAreTrue known n.files.items) → AreWritableBy form asked content rows)
-cell_writable number form asked g k n of (Err e) due video audio files = tt
-cell_writable number form asked g k n of (Ok rows) due video audio files = λ content sizes.
+    → IfOk r (λ rows. (content : Option Files) → IfSome content (λ known. SizesAreTrue known n.files.items) → AreWritableBy (form_of wanted) asked content rows)
+cell_writable number wanted asked g k n of (Err e) due video audio files = tt
+cell_writable number wanted asked g k n of (Ok rows) due video audio files = λ content sizes.
     let first = of.pieces.1 in
     let same : rows.files.items ≡ n.files.items = ap (λ files. files.items) files in
-    writable_by asked first.checked rows content (ap (map facts_of) same ∙ first.needed.files) (subst (λ (files : List NeededFile). IfSome content (λ known. SizesAreTrue known files)) (sym same) sizes) form
-    (plan_is_writable of.timeline of.part of.skipped of.pieces.0 first.checked of.kept first.of number form asked g k (flat_plan rows) first.sound due)
+    writable_by asked first.checked rows content (ap (map facts_of) same ∙ first.needed.files) (subst (λ (files : List NeededFile). IfSome content (λ known. SizesAreTrue known files)) (sym same) sizes) (form_of wanted)
+    (wanted_writable of.timeline of.part of.skipped of.pieces.0 first.checked of.kept first.of number wanted asked g k (flat_plan rows) first.sound due)
     video audio
 
 -- ---- a length that is declared
@@ -95,7 +94,7 @@ seen_next known edits asked grid cells k ps e =
 
 -- ---- a segment of a timeline
 
-module _ (known : Files) (edits : Bool) (g : SegmentGrid) (align : Bool) (asked : Asked) (t : Timeline) (number : ℕ) (form : Form) where
+module _ (known : Files) (edits : Bool) (g : SegmentGrid) (align : Bool) (asked : Asked) (t : Timeline) (number : ℕ) (wanted : Wanted) where
   abbrev pub cut : Cutting
   cut = cutting_of known g align edits
 
@@ -103,10 +102,10 @@ module _ (known : Files) (edits : Bool) (g : SegmentGrid) (align : Bool) (asked 
   found = located_cell cut asked t number
 
   abbrev rows_in : List CheckedPiece → Cell → Result SegmentPlan Refusal
-  rows_in pieces cell = checked_rows number form asked pieces (lone_cell cell.grid (timeline (map source_piece pieces)) cell.number)
+  rows_in pieces cell = wanted_rows number wanted asked pieces (lone_cell cell.grid (timeline (map source_piece pieces)) cell.number)
 
   abbrev pub planned : Result SegmentPlan Refusal
-  planned = planned_segment cut asked t number form
+  planned = planned_wanted cut asked t number wanted
 
   -- where the number stands
   by_place : found ≡ (place_among (counts cut asked t) number >>= λ p. ok_or (slice_get t.parts p.0) (refusals.NoSegment number (sum (counts cut asked t))) >>= λ part. Ok (cell_of cut asked t part p.1))
@@ -163,7 +162,7 @@ module _ (known : Files) (edits : Bool) (g : SegmentGrid) (align : Bool) (asked 
   -- ---- where all lengths are declared
 
   plan_declared : is_declared t ≡ true → planned ≡ ((found >>= λ cell. Ok cell.pieces) >>= λ needed. each_in_turn (checked known edits asked) needed >>= λ pieces. found >>= rows_in pieces)
-  unfolding planned_segment segment_pieces
+  unfolding planned_wanted segment_pieces
   plan_declared declared = rw declared refl
 
   segment_pieces_is : is_declared t ≡ true → segment_pieces cut asked t number ≡ (found >>= λ cell. Ok cell.pieces)
@@ -227,7 +226,7 @@ module _ (known : Files) (edits : Bool) (g : SegmentGrid) (align : Bool) (asked 
   -- ---- where the only length isn't declared
 
   pub plan_open : is_declared t ≡ false → planned ≡ (each_in_turn (checked known edits asked) t.pieces >>= λ pieces. found >>= rows_in pieces)
-  unfolding planned_segment segment_pieces
+  unfolding planned_wanted segment_pieces
   plan_open e = rw e refl
 
   segment_pieces_open : is_declared t ≡ false → segment_pieces cut asked t number ≡ Ok t.pieces
@@ -260,7 +259,7 @@ pub record StandsAt (g : SegmentGrid) (align : Bool) (t : Timeline) (number : �
   pub shown_is : shown ≡ from_first (piece_ends_after (cell_time (part_grid_of cut_into) k)) (part_pieces t part)
   pub next_is : next ≡ (if nat_lt (k + 1) cut_into.cells then Some (cut_into, k + 1) else None)
 
-module _ (known : Files) (edits : Bool) (g : SegmentGrid) (align : Bool) (asked : Asked) (t : Timeline) (number : ℕ) (form : Form) (cut_into : PartCells) (k : ℕ) (shown : List Piece) (next : Option (PartCells × ℕ))
+module _ (known : Files) (edits : Bool) (g : SegmentGrid) (align : Bool) (asked : Asked) (t : Timeline) (number : ℕ) (wanted : Wanted) (cut_into : PartCells) (k : ℕ) (shown : List Piece) (next : Option (PartCells × ℕ))
     (s : StandsAt g align t number cut_into k shown next) (log log_now : Option (List Read)) where
   abbrev cell : Cell
   cell = cell_of (cutting_of known g align edits) asked t s.part k
@@ -269,10 +268,10 @@ module _ (known : Files) (edits : Bool) (g : SegmentGrid) (align : Bool) (asked 
   declared_part = part_declared t.parts s.place s.part s.declared s.at
 
   cell_found : located_cell (cutting_of known g align edits) asked t number ≡ Ok cell
-  cell_found = found_cell known edits g align asked t number form s.place k s.part (ap (λ (ns : List ℕ). place_among ns number) (counts_are known edits g align asked t s.declared) ∙ s.among) s.at
+  cell_found = found_cell known edits g align asked t number wanted s.place k s.part (ap (λ (ns : List ℕ). place_among ns number) (counts_are known edits g align asked t s.declared) ∙ s.among) s.at
 
   grid_is : part_grid_of cut_into ≡ cell.grid
-  grid_is = s.grid ∙ sym (cell_grid known edits g align asked t number form s.part k declared_part)
+  grid_is = s.grid ∙ sym (cell_grid known edits g align asked t number wanted s.part k declared_part)
 
   pieces_are : through_first (stops known edits asked next) shown ≡ cell.pieces
   pieces_are =
@@ -280,24 +279,24 @@ module _ (known : Files) (edits : Bool) (g : SegmentGrid) (align : Bool) (asked 
       ∙ seen_next known edits asked cell.grid cut_into k shown grid_is
       ∙ ap (λ (ps : List Piece). cond (nat_lt (suc k) cell.grid.cells) (through_first (λ p. begins cell.grid (suc k) (source_of known edits asked p)) ps) ps)
       (s.shown_is ∙ ap (λ (grid : PartGrid). from_first (piece_ends_after (cell_time grid k)) (part_pieces t s.part)) grid_is)
-      ∙ sym (cell_pieces known edits g align asked t number form s.part k declared_part)
+      ∙ sym (cell_pieces known edits g align asked t number wanted s.part k declared_part)
 
   looks_at : (r : Result Needed Refusal) → AreLooks known edits asked (through_first (stops known edits asked next) shown) r log log_now → AreLooks known edits asked cell.pieces r log log_now
   looks_at r looks = subst (λ (ps : List Piece). AreLooks known edits asked ps r log log_now) pieces_are looks
 
   pub stands_refused : (e : Refusal) → AreLooks known edits asked (through_first (stops known edits asked next) shown) (Err e) log log_now
-      → Came {X = FlatRows} flat_plan (Err e) (planned known edits g align asked t number form) (segment_turns (cutting_of known g align edits) asked t number) log log_now
+      → Came {X = FlatRows} flat_plan (Err e) (planned known edits g align asked t number wanted) (segment_turns (cutting_of known g align edits) asked t number) log log_now
   stands_refused e looks =
-      came_refused known edits g align asked t number form cell.pieces (plan_cell known edits g align asked t number form cell s.declared cell_found) (turns_cell known edits g align asked t number form cell s.declared cell_found) log log_now e (looks_at (Err e) looks)
+      came_refused known edits g align asked t number wanted cell.pieces (plan_cell known edits g align asked t number wanted cell s.declared cell_found) (turns_cell known edits g align asked t number wanted cell s.declared cell_found) log log_now e (looks_at (Err e) looks)
 
   pub stands_found : (n : Needed) (r : Result FlatRows Refusal) → AreLooks known edits asked (through_first (stops known edits asked next) shown) (Ok n) log log_now
-      → ((pieces : List CheckedPiece) → AreNeeded pieces n → Answers flat_plan r (checked_rows number form asked pieces (lone_cell (part_grid_of cut_into) (timeline (map source_piece pieces)) k)))
-      → Came flat_plan r (planned known edits g align asked t number form) (segment_turns (cutting_of known g align edits) asked t number) log log_now
+      → ((pieces : List CheckedPiece) → AreNeeded pieces n → Answers flat_plan r (wanted_rows number wanted asked pieces (lone_cell (part_grid_of cut_into) (timeline (map source_piece pieces)) k)))
+      → Came flat_plan r (planned known edits g align asked t number wanted) (segment_turns (cutting_of known g align edits) asked t number) log log_now
   stands_found n r looks answers =
       let here = looks_at (Ok n) looks in
-      came_found known edits g align asked t number form cell.pieces (plan_cell known edits g align asked t number form cell s.declared cell_found) (turns_cell known edits g align asked t number form cell s.declared cell_found) log log_now n here cell r cell_found
-      (subst (λ (i : ℕ). Answers flat_plan r (checked_rows number form asked here.answered.all (lone_cell cell.grid (timeline (map source_piece here.answered.all)) i))) (sym (cell_number known edits g align asked t number form s.part k))
-      (subst (λ (grid : PartGrid). Answers flat_plan r (checked_rows number form asked here.answered.all (lone_cell grid (timeline (map source_piece here.answered.all)) k))) grid_is
+      came_found known edits g align asked t number wanted cell.pieces (plan_cell known edits g align asked t number wanted cell s.declared cell_found) (turns_cell known edits g align asked t number wanted cell s.declared cell_found) log log_now n here cell r cell_found
+      (subst (λ (i : ℕ). Answers flat_plan r (wanted_rows number wanted asked here.answered.all (lone_cell cell.grid (timeline (map source_piece here.answered.all)) i))) (sym (cell_number known edits g align asked t number wanted s.part k))
+      (subst (λ (grid : PartGrid). Answers flat_plan r (wanted_rows number wanted asked here.answered.all (lone_cell grid (timeline (map source_piece here.answered.all)) k))) grid_is
       (answers here.answered.all here.answered.needed)))
 
 pub stands_at : (g : SegmentGrid) (align : Bool) (t : Timeline) (number : ℕ) (ns items : List ℕ) (ps : List Part) (place : ℕ × ℕ) (part : Part) (pieces shown : List Piece) (count : ℕ)
@@ -321,10 +320,10 @@ stands_at g align t number ns items ps place part pieces shown count cut_into ti
       next_is = next_is;
     }
 
-pub none_among : (known : Files) (edits : Bool) (g : SegmentGrid) (align : Bool) (asked : Asked) (t : Timeline) (number : ℕ) (form : Form) (ns items : List ℕ) (ps : List Part) (e : Refusal) → is_declared t ≡ true → ns ≡ items → items ≡ declared_counts g ps → ps ≡ t.parts
+pub none_among : (known : Files) (edits : Bool) (g : SegmentGrid) (align : Bool) (asked : Asked) (t : Timeline) (number : ℕ) (wanted : Wanted) (ns items : List ℕ) (ps : List Part) (e : Refusal) → is_declared t ≡ true → ns ≡ items → items ≡ declared_counts g ps → ps ≡ t.parts
     → Err e ≡ place_among ns number → located_cell (cutting_of known g align edits) asked t number ≡ Err e
-none_among known edits g align asked t number form ns items ps e declared same are of among =
-    found_none known edits g align asked t number form e
+none_among known edits g align asked t number wanted ns items ps e declared same are of among =
+    found_none known edits g align asked t number wanted e
     (ap (λ (xs : List ℕ). place_among xs number) (counts_are known edits g align asked t declared ∙ sym (same ∙ are ∙ ap (declared_counts g) of)) ∙ sym among)
 
 -- the needed pieces are some of a part's
@@ -341,7 +340,7 @@ some_part t e = by_parts t.parts e
     by_parts [] e = absurd (true≢false e)
     by_parts (p ∷ ps) e = omega arith
 
-module _ (known : Files) (edits : Bool) (g : SegmentGrid) (align : Bool) (asked : Asked) (t : Timeline) (number : ℕ) (form : Form) (part : Part) (h : IsTimeline t.pieces t.parts) (open_end : is_declared t ≡ false) (at : slice_get t.parts 0 ≡ Some part) where
+module _ (known : Files) (edits : Bool) (g : SegmentGrid) (align : Bool) (asked : Asked) (t : Timeline) (number : ℕ) (wanted : Wanted) (part : Part) (h : IsTimeline t.pieces t.parts) (open_end : is_declared t ≡ false) (at : slice_get t.parts 0 ≡ Some part) where
   whole_part : (part.length_ms ≡ None) × (part_pieces t part ≡ t.pieces)
   whole_part = undeclared_part t 0 part h open_end at
 
@@ -351,9 +350,9 @@ module _ (known : Files) (edits : Bool) (g : SegmentGrid) (align : Bool) (asked 
   looks_at_all shown r log log_now e looks = subst (λ (ps : List Piece). AreLooks known edits asked ps r log log_now) (seen_none known edits asked shown ∙ e ∙ whole_part.1) looks
 
   pub open_refused : (shown : List Piece) (e : Refusal) (log log_now : Option (List Read)) → shown ≡ part_pieces t part → AreLooks known edits asked (through_first (stops known edits asked None) shown) (Err e) log log_now
-      → Came {X = FlatRows} flat_plan (Err e) (planned known edits g align asked t number form) (segment_turns (cutting_of known g align edits) asked t number) log log_now
+      → Came {X = FlatRows} flat_plan (Err e) (planned known edits g align asked t number wanted) (segment_turns (cutting_of known g align edits) asked t number) log log_now
   open_refused shown e log log_now is looks =
-      came_refused known edits g align asked t number form t.pieces (plan_open known edits g align asked t number form open_end) (turns_open known edits g align asked t number form open_end) log log_now e (looks_at_all shown (Err e) log log_now is looks)
+      came_refused known edits g align asked t number wanted t.pieces (plan_open known edits g align asked t number wanted open_end) (turns_open known edits g align asked t number wanted open_end) log log_now e (looks_at_all shown (Err e) log log_now is looks)
 
   module _ (shown : List Piece) (n : Needed) (count : ℕ) (log log_now : Option (List Read)) (is : shown ≡ part_pieces t part) (looks : AreLooks known edits asked (through_first (stops known edits asked None) shown) (Ok n) log log_now)
       (counted : count ≡ cells g (milliseconds (lead_end part.start (part_rows n.rows).lead))) where
@@ -383,23 +382,23 @@ module _ (known : Files) (edits : Bool) (g : SegmentGrid) (align : Bool) (asked 
     grid_of_open k = ap (λ (n : ℕ). record { grid = g; align = align; start = part.start; cells = n }) (counted ∙ ap (cells g) (sym length_is))
 
     pub open_unplaced : (e : Refusal) → Err e ≡ place_among (count ∷ []) number
-        → Came {X = FlatRows} flat_plan (Err e) (planned known edits g align asked t number form) (segment_turns (cutting_of known g align edits) asked t number) log log_now
+        → Came {X = FlatRows} flat_plan (Err e) (planned known edits g align asked t number wanted) (segment_turns (cutting_of known g align edits) asked t number) log log_now
     open_unplaced e none =
-        came_unplaced known edits g align asked t number form t.pieces (plan_open known edits g align asked t number form open_end) (turns_open known edits g align asked t number form open_end) log log_now n here e
-        (found_none known edits g align asked t number form e (ap (λ (ns : List ℕ). place_among ns number) counts_is ∙ sym none))
+        came_unplaced known edits g align asked t number wanted t.pieces (plan_open known edits g align asked t number wanted open_end) (turns_open known edits g align asked t number wanted open_end) log log_now n here e
+        (found_none known edits g align asked t number wanted e (ap (λ (ns : List ℕ). place_among ns number) counts_is ∙ sym none))
 
     pub open_found : (cut_into : PartCells) (place : ℕ × ℕ) (r : Result FlatRows Refusal) → part_grid_of cut_into ≡ record { grid = g; align = align; start = part.start; cells = count }
         → place.0 < 1 → Ok place ≡ place_among (count ∷ []) number
-        → ((pieces : List CheckedPiece) → AreNeeded pieces n → Answers flat_plan r (checked_rows number form asked pieces (lone_cell (part_grid_of cut_into) (timeline (map source_piece pieces)) place.1)))
-        → Came flat_plan r (planned known edits g align asked t number form) (segment_turns (cutting_of known g align edits) asked t number) log log_now
+        → ((pieces : List CheckedPiece) → AreNeeded pieces n → Answers flat_plan r (wanted_rows number wanted asked pieces (lone_cell (part_grid_of cut_into) (timeline (map source_piece pieces)) place.1)))
+        → Came flat_plan r (planned known edits g align asked t number wanted) (segment_turns (cutting_of known g align edits) asked t number) log log_now
     open_found cut_into place r grid within found answers =
         let k = place.1 in
         let cell : Cell = cell_of (cutting_of known g align edits) asked t part k in
         let first : place.0 ≡ 0 = omega (arith, within) in
         let all = here.answered.all in
-        came_found known edits g align asked t number form t.pieces (plan_open known edits g align asked t number form open_end) (turns_open known edits g align asked t number form open_end) log log_now n here cell r
-        (found_cell known edits g align asked t number form 0 k part
+        came_found known edits g align asked t number wanted t.pieces (plan_open known edits g align asked t number wanted open_end) (turns_open known edits g align asked t number wanted open_end) log log_now n here cell r
+        (found_cell known edits g align asked t number wanted 0 k part
         (ap (λ (ns : List ℕ). place_among ns number) counts_is ∙ sym found ∙ ap (λ (i : ℕ). Ok (i, k)) first) at)
-        (subst (λ (i : ℕ). Answers flat_plan r (checked_rows number form asked all (lone_cell cell.grid (timeline (map source_piece all)) i))) (sym (cell_number known edits g align asked t number form part k))
-        (subst (λ (grid : PartGrid). Answers flat_plan r (checked_rows number form asked all (lone_cell grid (timeline (map source_piece all)) k))) (grid ∙ grid_of_open k)
+        (subst (λ (i : ℕ). Answers flat_plan r (wanted_rows number wanted asked all (lone_cell cell.grid (timeline (map source_piece all)) i))) (sym (cell_number known edits g align asked t number wanted part k))
+        (subst (λ (grid : PartGrid). Answers flat_plan r (wanted_rows number wanted asked all (lone_cell grid (timeline (map source_piece all)) k))) (grid ∙ grid_of_open k)
         (answers all here.answered.needed)))

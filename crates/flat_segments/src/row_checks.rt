@@ -75,7 +75,7 @@ pub(crate) fn checked_rows(
 
 // What is refused before the samples are gone through: no lead row, in a transport stream mixed codecs, then more than
 // 200,000 rows of a track.
-fn check_front(
+pub(crate) fn check_front(
     alloc: Global,
     number: u32,
     form: Form,

@@ -11,23 +11,33 @@ ghost use Rattle.vod_source.specs.Causes.{Rose};
 ghost use Rattle.vod_source.specs.Stored.{Files};
 ghost use Rattle.origin_model.specs.Loaded.{CheckedPiece};
 ghost use Rattle.origin_model.specs.Plans.{planned_segment};
-ghost use Rattle.origin_model.specs.Samples.{checked_rows as checked_rows_of};
 ghost use Rattle.origin_model.specs.Sources.{is_declared, source_piece};
 ghost use Rattle.vod_source.specs.Calls.{Came};
+ghost use Rattle.flat_samples.specs.Rows.{part_rows, ArePlacedRows};
 ghost use Rattle.flat_segments.specs.Cells.{part_grid_of};
-ghost use Rattle.flat_segments.specs.Needed.{AreNeeded, AreOfPart};
-ghost use Rattle.flat_segments.specs.Planned.{cutting_of, piece_ends_after, place_among, segment_turns};
-ghost use Rattle.flat_segments.specs.Segments.{flat_plan, AreWritableBy, SizesAreTrue};
+ghost use Rattle.flat_segments.specs.Needed.{AreNeeded, AreOfPart, AreTyped};
+ghost use Rattle.flat_segments.specs.Planned.{cutting_of, form_of, piece_ends_after, place_among, planned_wanted, segment_turns, wanted_rows as wanted_rows_of};
+ghost use Rattle.flat_segments.specs.RowFaults.{EndsLow};
+ghost use Rattle.flat_segments.specs.Segments.{facts_of, file_of, flat_plan, AreWritableBy, SizesAreTrue};
 
 use crate::cells::{PartCells, length_of};
-use crate::needed::{Needed, needed_of};
+use crate::lone_iframe::checked_iframe;
+use crate::needed::{Needed, NeededFile, needed_of};
 use crate::parts::{Cut, counts_of, is_declared, part_at, parts_of, sum_of};
 use crate::rows::{FlatRows, checked_rows};
 use clip_model::Piece;
+use flat_samples::PartRows;
 use segmenter::{cells, locate};
 use std::alloc::Global;
 use vod_source::Store;
 use vod_types::{Asked, Form, Refusal};
+
+/// What is wanted of a segment: all of its rows in a form, or of its transport stream the I-frame of an index from 1 alone.
+#[derive(Clone, Copy)]
+pub(crate) enum Wanted {
+    Whole(Form),
+    Iframe(u32),
+}
 
 /// The rows of the segment of a number in a form.
 ///
@@ -49,10 +59,30 @@ pub fn segment_rows<S: Store>(
     ensures later { S.faults files.old ≤ S.faults files.new }
     ensures store_failed { IsErrOf result StoreFailed → Rose (S.faults files.old) (S.faults files.new) }
 {
+    wanted_segment(alloc, files, cut, asked, number, Wanted::Whole(form))
+}
+
+/// What is wanted of the segment of a number.
+pub(crate) fn wanted_segment<S: Store>(
+    alloc: Global,
+    files: &mut S,
+    cut: Cut<'_>,
+    asked: Asked,
+    number: u32,
+    wanted: Wanted,
+) -> Result<FlatRows, Refusal>
+    ensures told { IfSome (S.content files.old) (λ known.
+        Came flat_plan result (planned_wanted (cutting_of known cut.entry.grid.now cut.entry.align cut.entry.edits) asked cut.entry.timeline.now number wanted)
+        (segment_turns (cutting_of known cut.entry.grid.now cut.entry.align cut.entry.edits) asked cut.entry.timeline.now number) (S.log files.old) (S.log files.new)) }
+    ensures writable { IfOk result (λ rows. AreWritableBy (form_of wanted) asked (S.content files.new) rows) }
+    ensures content { S.content files.new ≡ S.content files.old }
+    ensures later { S.faults files.old ≤ S.faults files.new }
+    ensures store_failed { IsErrOf result StoreFailed → Rose (S.faults files.old) (S.faults files.new) }
+{
     if is_declared(parts_of(cut.timeline)) {
-        declared_segment(alloc, files, cut, asked, number, form)
+        declared_segment(alloc, files, cut, asked, number, wanted)
     } else {
-        open_segment(alloc, files, cut, asked, number, form)
+        open_segment(alloc, files, cut, asked, number, wanted)
     }
 }
 
@@ -63,13 +93,13 @@ fn declared_segment<S: Store>(
     cut: Cut<'_>,
     asked: Asked,
     number: u32,
-    form: Form,
+    wanted: Wanted,
 ) -> Result<FlatRows, Refusal>
     requires declared { is_declared cut.timeline.now ≡ true }
     ensures told { IfSome (S.content files.old) (λ known.
-        Came flat_plan result (planned_segment (cutting_of known cut.entry.grid.now cut.entry.align cut.entry.edits) asked cut.entry.timeline.now number form)
+        Came flat_plan result (planned_wanted (cutting_of known cut.entry.grid.now cut.entry.align cut.entry.edits) asked cut.entry.timeline.now number wanted)
         (segment_turns (cutting_of known cut.entry.grid.now cut.entry.align cut.entry.edits) asked cut.entry.timeline.now number) (S.log files.old) (S.log files.new)) }
-    ensures writable { IfOk result (λ rows. AreWritableBy form asked (S.content files.new) rows) }
+    ensures writable { IfOk result (λ rows. AreWritableBy (form_of wanted) asked (S.content files.new) rows) }
     ensures content { S.content files.new ≡ S.content files.old }
     ensures later { S.faults files.old ≤ S.faults files.new }
     ensures store_failed { IsErrOf result StoreFailed → Rose (S.faults files.old) (S.faults files.new) }
@@ -86,7 +116,7 @@ fn declared_segment<S: Store>(
     let cells = cut.cells(&part, counts[place as usize]);
     let pieces = ending_after(pieces, cells.time(k));
     match needed_of(alloc, files, cut.edits, asked, pieces, next_cell(cells, k)) {
-        Ok(needed) => cell_rows(alloc, &cells, k, number, form, asked, needed),
+        Ok(needed) => cell_rows(alloc, &cells, k, number, wanted, asked, needed),
         Err(refusal) => Err(refusal),
     }
 }
@@ -98,13 +128,13 @@ fn open_segment<S: Store>(
     cut: Cut<'_>,
     asked: Asked,
     number: u32,
-    form: Form,
+    wanted: Wanted,
 ) -> Result<FlatRows, Refusal>
     requires declared { is_declared cut.timeline.now ≡ false }
     ensures told { IfSome (S.content files.old) (λ known.
-        Came flat_plan result (planned_segment (cutting_of known cut.entry.grid.now cut.entry.align cut.entry.edits) asked cut.entry.timeline.now number form)
+        Came flat_plan result (planned_wanted (cutting_of known cut.entry.grid.now cut.entry.align cut.entry.edits) asked cut.entry.timeline.now number wanted)
         (segment_turns (cutting_of known cut.entry.grid.now cut.entry.align cut.entry.edits) asked cut.entry.timeline.now number) (S.log files.old) (S.log files.new)) }
-    ensures writable { IfOk result (λ rows. AreWritableBy form asked (S.content files.new) rows) }
+    ensures writable { IfOk result (λ rows. AreWritableBy (form_of wanted) asked (S.content files.new) rows) }
     ensures content { S.content files.new ≡ S.content files.old }
     ensures later { S.faults files.old ≤ S.faults files.new }
     ensures store_failed { IsErrOf result StoreFailed → Rose (S.faults files.old) (S.faults files.new) }
@@ -121,7 +151,7 @@ fn open_segment<S: Store>(
             &cut.cells(&part, count),
             k,
             number,
-            form,
+            wanted,
             asked,
             needed,
         ),
@@ -191,7 +221,7 @@ fn cell_rows(
     cells: &PartCells<'_>,
     k: u64,
     number: u32,
-    form: Form,
+    wanted: Wanted,
     asked: Asked,
     needed: Needed,
 ) -> Result<FlatRows, Refusal>
@@ -199,14 +229,37 @@ fn cell_rows(
     requires start { IsTime cells.now.start }
     requires of { AreOfPart asked needed }
     ensures writable { IfOk result (λ rows. (content : Option Files) → IfSome content (λ known. SizesAreTrue known needed.files.items) →
-        AreWritableBy form asked content rows) }
+        AreWritableBy (form_of wanted) asked content rows) }
     ensures not_failed { IfErr result (λ refusal. refusal ≢ StoreFailed) }
     ensures answers { (pieces : List CheckedPiece) → AreNeeded pieces needed →
-        Answers flat_plan result (checked_rows_of number form asked pieces (lone_cell (part_grid_of cells.now) (timeline (map source_piece pieces)) k)) }
+        Answers flat_plan result (wanted_rows_of number wanted asked pieces (lone_cell (part_grid_of cells.now) (timeline (map source_piece pieces)) k)) }
 {
     let Needed { files, rows } = needed;
     match cells.rows_of(alloc, &rows, k) {
-        Ok(rows) => checked_rows(alloc, number, form, asked, files, &rows),
+        Ok(rows) => wanted_rows(alloc, number, wanted, asked, files, &rows),
         Err(refusal) => Err(refusal),
+    }
+}
+
+// Those of the rows of a cell that are wanted.
+fn wanted_rows(
+    alloc: Global,
+    number: u32,
+    wanted: Wanted,
+    asked: Asked,
+    files: Vec<NeededFile>,
+    rows: &PartRows,
+) -> Result<FlatRows, Refusal>
+    requires placed { ArePlacedRows (part_rows rows.now) }
+    requires typed { AreTyped asked files.items }
+    ensures answers { (pieces : List CheckedPiece) → map file_of pieces ≡ map facts_of files.items →
+        Answers flat_plan result (wanted_rows_of number wanted asked pieces (part_rows rows.now)) }
+    ensures video_ends { IfOk result (λ r. All EndsLow r.video.items) }
+    ensures audio_ends { IfOk result (λ r. All EndsLow r.audio.items) }
+    ensures files { IfOk result (λ r. r.files ≡ files) }
+{
+    match wanted {
+        Wanted::Whole(form) => checked_rows(alloc, number, form, asked, files, rows),
+        Wanted::Iframe(index) => checked_iframe(alloc, number, index, asked, files, rows),
     }
 }

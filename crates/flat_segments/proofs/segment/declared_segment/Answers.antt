@@ -24,8 +24,8 @@ part_at-requires g c =
 pub returns-in-Err-place_among-clause-told : goal.returns-in-Err-place_among-clause-told
 returns-in-Err-place_among-clause-told g c =
     told_all (g.S.Store.content c.args.files.now) _
-    (λ known. came_unread known c.args.cut.edits c.args.cut.grid.now c.args.cut.align c.args.asked c.args.cut.timeline.now c.args.number c.args.form c.in-Err-place_among.refusal _ c.requires.declared
-    (none_among known c.args.cut.edits c.args.cut.grid.now c.args.cut.align c.args.asked c.args.cut.timeline.now c.args.number c.args.form c.deref.result.now c.in-Ok.counts.items c.parts_of.result.now c.in-Err-place_among.refusal
+    (λ known. came_unread known c.args.cut.edits c.args.cut.grid.now c.args.cut.align c.args.asked c.args.cut.timeline.now c.args.number c.args.wanted c.in-Err-place_among.refusal _ c.requires.declared
+    (none_among known c.args.cut.edits c.args.cut.grid.now c.args.cut.align c.args.asked c.args.cut.timeline.now c.args.number c.args.wanted c.deref.result.now c.in-Ok.counts.items c.parts_of.result.now c.in-Err-place_among.refusal
     c.requires.declared c.deref.ensures.value c.in-Ok.ensures.counts c.parts_of.ensures.parts c.in-Err-place_among.ensures.place))
 
 pub cell_rows-requires-clause-of : goal.cell_rows-requires-clause-of
@@ -42,7 +42,7 @@ returns-in-Ok-needed_of-clause-told g c =
     (let within : c.in-Ok-place_among.place.0 < length c.in-Ok.counts.items = omega (arith, c.in-Ok-place_among.ensures.part, ap (λ ns. length ns) c.deref.ensures.value) in within)
     c.index.ensures c.cells-cells.ensures c.part_at.ensures.pieces (simp to_z-of_z at c.ending_after-pieces.ensures.pieces) c.time.ensures c.next_cell.ensures in
     told_with_all (g.S.Store.content c.args.files.now) _ _ c.in-Ok-needed_of.ensures.told
-    (λ known looks. stands_found known c.args.cut.edits c.args.cut.grid.now c.args.cut.align c.args.asked c.args.cut.timeline.now c.args.number c.args.form c.cells-cells.result c.in-Ok-place_among.place.1 c.ending_after-pieces.result.now c.next_cell.result stands _ _
+    (λ known looks. stands_found known c.args.cut.edits c.args.cut.grid.now c.args.cut.align c.args.asked c.args.cut.timeline.now c.args.number c.args.wanted c.cells-cells.result c.in-Ok-place_among.place.1 c.ending_after-pieces.result.now c.next_cell.result stands _ _
     c.in-Ok-needed_of.needed c.cell_rows.result looks c.cell_rows.ensures.answers)
 
 pub returns-clause-told : goal.returns-clause-told
@@ -54,5 +54,5 @@ returns-clause-told g c =
     (let within : c.in-Ok-place_among.place.0 < length c.in-Ok.counts.items = omega (arith, c.in-Ok-place_among.ensures.part, ap (λ ns. length ns) c.deref.ensures.value) in within)
     c.index.ensures c.cells-cells.ensures c.part_at.ensures.pieces (simp to_z-of_z at c.ending_after-pieces.ensures.pieces) c.time.ensures c.next_cell.ensures in
     told_with_all (g.S.Store.content c.args.files.now) _ _ c.in-Err-needed_of.ensures.told
-    (λ known looks. stands_refused known c.args.cut.edits c.args.cut.grid.now c.args.cut.align c.args.asked c.args.cut.timeline.now c.args.number c.args.form c.cells-cells.result c.in-Ok-place_among.place.1 c.ending_after-pieces.result.now c.next_cell.result stands _ _
+    (λ known looks. stands_refused known c.args.cut.edits c.args.cut.grid.now c.args.cut.align c.args.asked c.args.cut.timeline.now c.args.number c.args.wanted c.cells-cells.result c.in-Ok-place_among.place.1 c.ending_after-pieces.result.now c.next_cell.result stands _ _
     c.in-Err-needed_of.refusal looks)

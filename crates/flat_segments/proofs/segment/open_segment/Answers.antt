@@ -14,7 +14,7 @@ part_at-requires g c = some_part c.args.cut.timeline.now c.requires.declared
 pub returns-in-Err-clause-told : goal.returns-in-Err-clause-told
 returns-in-Err-clause-told g c =
     told_with_all (g.S.Store.content c.args.files.now) _ _ c.in-Err.ensures.told
-    (λ known looks. open_refused known c.args.cut.edits c.args.cut.grid.now c.args.cut.align c.args.asked c.args.cut.timeline.now c.args.number c.args.form c.part_at.result.0 c.part_at.ensures.kept c.requires.declared c.part_at.ensures.part
+    (λ known looks. open_refused known c.args.cut.edits c.args.cut.grid.now c.args.cut.align c.args.asked c.args.cut.timeline.now c.args.number c.args.wanted c.part_at.result.0 c.part_at.ensures.kept c.requires.declared c.part_at.ensures.part
     c.part_at.result.1.now c.in-Err.refusal _ _ c.part_at.ensures.pieces looks)
 
 pub place_among-requires-clause-bounded : goal.place_among-requires-clause-bounded
@@ -34,7 +34,7 @@ returns-in-Ok-place_among-clause-told g c =
     let counted = c.cells-count.ensures ∙ ap (cells c.args.cut.grid.now)
     ((simp to_z-of_z at c.length_of.ensures) ∙ ap (λ rows. milliseconds (lead_end c.part_at.result.0.start (map timed_view rows))) c.deref.ensures.value) in
     told_with_all (g.S.Store.content c.args.files.now) _ _ c.in-Ok.ensures.told
-    (λ known looks. open_found known c.args.cut.edits c.args.cut.grid.now c.args.cut.align c.args.asked c.args.cut.timeline.now c.args.number c.args.form c.part_at.result.0 c.part_at.ensures.kept c.requires.declared c.part_at.ensures.part
+    (λ known looks. open_found known c.args.cut.edits c.args.cut.grid.now c.args.cut.align c.args.asked c.args.cut.timeline.now c.args.number c.args.wanted c.part_at.result.0 c.part_at.ensures.kept c.requires.declared c.part_at.ensures.part
     c.part_at.result.1.now c.in-Ok.needed c.cells-count.result _ _ c.part_at.ensures.pieces looks counted c.cells.result (c.in-Ok-place_among.field-0-0, c.in-Ok-place_among.k) c.cell_rows.result c.cells.ensures
     c.in-Ok-place_among.ensures.part c.in-Ok-place_among.ensures.place c.cell_rows.ensures.answers)
 
@@ -44,5 +44,5 @@ returns-in-Err-place_among-clause-told g c =
     let counted = c.cells-count.ensures ∙ ap (cells c.args.cut.grid.now)
     ((simp to_z-of_z at c.length_of.ensures) ∙ ap (λ rows. milliseconds (lead_end c.part_at.result.0.start (map timed_view rows))) c.deref.ensures.value) in
     told_with_all (g.S.Store.content c.args.files.now) _ _ c.in-Ok.ensures.told
-    (λ known looks. open_unplaced known c.args.cut.edits c.args.cut.grid.now c.args.cut.align c.args.asked c.args.cut.timeline.now c.args.number c.args.form c.part_at.result.0 c.part_at.ensures.kept c.requires.declared c.part_at.ensures.part
+    (λ known looks. open_unplaced known c.args.cut.edits c.args.cut.grid.now c.args.cut.align c.args.asked c.args.cut.timeline.now c.args.number c.args.wanted c.part_at.result.0 c.part_at.ensures.kept c.requires.declared c.part_at.ensures.part
     c.part_at.result.1.now c.in-Ok.needed c.cells-count.result _ _ c.part_at.ensures.pieces looks counted c.in-Err-place_among.refusal c.in-Err-place_among.ensures.place)
