@@ -1,6 +1,6 @@
 -- The tracks of a movie whose metadata are kept, by the places of its file.
 use Rattle.std.proofs.Common.{◌≡◌, ℕ, ◌<◌, ◌^◌, true, false, List, [], Option, Some, None, Result, Ok, Err, refl, sym, ap, subst, ◌∙◌, arith}
-use Rattle.std.specs.Prelude.{ok_or, option_map, option_and_then}
+use Rattle.std.specs.Prelude.{is_some, ok_or, option_map, option_and_then}
 use Rattle.std.specs.Result.{result_map_both, result_ok, result_unwrap_or}
 use Rattle.vod_types.specs.declared.tracks.TrackName.{TrackName}
 use Rattle.vod_types.specs.Results.{◌>>=◌}
@@ -23,6 +23,7 @@ use Rattle.mp4_tracks.specs.declared.views.TrackView.{TrackView}
 use Rattle.mp4_tracks.specs.Edits.{IsEditOf}
 use Rattle.mp4_tracks.specs.Made.{IsMadeOf, due_outcomes}
 use Rattle.mp4_tracks.specs.Views.{good_of, IsViewOf}
+use Rattle.origin_model.specs.Loaded.{file_has}
 use Rattle.time_runs.specs.Checkpoints.{checkpoints_of as time_checkpoints}
 use Rattle.chunk_runs.specs.Checkpoints.{checkpoints_of as place_checkpoints}
 use Rattle.vod_meta.specs.declared.indexes.TrackIndex.{TrackIndex}
@@ -124,6 +125,28 @@ module _ (place : MoviePlace) (moov : List ℕ) (tracks : Tracks) (made : IsMade
   view-err fault shown viewed is =
       ap (result_map_both (λ (t : GoodTrack). t) (track_fault_in_file place.at)) (viewed (tracks_in moov) known)
       ∙ ap (λ (f : TrackFault). Err f) (sym is)
+
+  -- whether it is there
+  pub has-good : (v : TrackView) → Viewed moov tracks made track (Ok v) → file_has (movie_at place moov) track ≡ true
+  unfolding track_view
+  has-good v viewed = by_track (named_track (tracks_in moov) track) refl (viewed (tracks_in moov) known).0
+    where
+      by_track : (o : Option Track) → named_track (tracks_in moov) track ≡ o → (ok_or o faults.Absent >>= λ t. good_track t.kind t.mdia) ≡ Ok (good_of v) → is_some (named_track (tracks_in moov) track) ≡ true
+      by_track None is e = absurd cc
+      by_track (Some t) is e = ap (λ (o : Option Track). is_some o) is
+
+  pub has-faulty : (fault : TrackFault) → Viewed moov tracks made track (Err fault) → file_has (movie_at place moov) track ≡ is_there fault
+  has-faulty fault viewed = elim (view_fault moov (tracks_in moov) track fault known (viewed (tracks_in moov) known)) [
+    | not_there none is ↦ ap (λ (o : Option Track). is_some o) none ∙ ap is_there (sym is)
+    | faulty t some within ↦ ap (λ (o : Option Track). is_some o) some ∙ by_fault fault within
+  ]
+    where
+      by_fault : (f : TrackFault) → IsFaultIn moov f → true ≡ is_there f
+      by_fault faults.Absent within = absurd within
+      by_fault (faults.Box at) within = refl
+      by_fault (faults.Table table) within = refl
+      by_fault (faults.Codec kind) within = refl
+      by_fault faults.TooLong within = refl
 
   -- its edit
   abbrev pub Edited : Result Edit TrackFault → Type 0

@@ -76,8 +76,8 @@ fn index_of(
     }
 }
 
-// Whether it is a fault of a track that the movie has.
-fn is_there(fault: TrackFault) -> bool
+/// Whether it is a fault of a track that the movie has.
+pub(crate) fn is_there(fault: TrackFault) -> bool
     ensures { result ≡ is_there fault }
 {
     match fault {
