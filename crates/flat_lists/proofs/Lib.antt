@@ -2,3 +2,4 @@ pub mod AskingLemmas
 pub mod ListedCells
 pub mod ListedParts
 pub mod ListedTimelines
+pub mod Tours

@@ -3,3 +3,4 @@ pub mod Mapped
 pub mod ListedCells
 pub mod ListedParts
 pub mod Listings
+pub mod Tours

@@ -1,0 +1,198 @@
+-- Calls that look at the files of several pieces, one after another.
+use Rattle.std.proofs.Common.{◌≡◌, ◌≢◌, ℕ, suc, ◌+◌, Bool, true, false, List, [], ◌∷◌, ◌++◌, Option, Result, Ok, Err, refl, sym, ap, ap₂, ◌∙◌, subst, arith, take, append_assoc, append-nil}
+use Rattle.std.specs.Prelude.{flat_map, is_err}
+use Rattle.std.specs.List.{position_or_len}
+use Rattle.vod_types.specs.declared.refusal.Refusal.{Refusal}
+use Rattle.vod_types.specs.declared.refusal.Refusal.TheVariants.{NoMemory, StoreFailed}
+use Rattle.vod_types.specs.Lists.{through_first}
+use Rattle.vod_types.specs.Results.{◌>>=◌, each_in_turn}
+use Rattle.mp4_model.specs.Movie.{Movie}
+use Rattle.vod_source.specs.Calls.{LogsReads}
+use Rattle.vod_source.specs.Stored.{Files, Read}
+use Rattle.vod_source.specs.Told.{told_with}
+use Rattle.vod_source.proofs.CallLemmas.{LogsErr, logs_all, logs_then, logs_ended}
+use Rattle.vod_source.proofs.ToldLemmas.{told_with-nil, told_with-more}
+use Rattle.origin_model.specs.Loaded.{loaded}
+use Rattle.origin_model.specs.Reads.{Cache, turn, turns}
+use Rattle.flat_samples.specs.Movies.{HeldMovie, AreTrue, IsTurn, names_held}
+use Rattle.flat_samples.proofs.CheckLemmas.{not_loaded}
+use Rattle.flat_lists.specs.Tours.{StandsFor, HeldAfter, IsTour, IsOnTour, names_of_steps}
+
+-- ---- lists through an element
+
+pub through_stop : {X : Type 0} (test : X → Bool) (x : X) (xs : List X) → test x ≡ true → through_first test (x ∷ xs) ≡ x ∷ []
+through_stop test x xs e = rw e refl
+
+pub through_more : {X : Type 0} (test : X → Bool) (x : X) (xs : List X) → test x ≡ false → through_first test (x ∷ xs) ≡ x ∷ through_first test xs
+through_more test x xs e =
+    let n : 1 + position_or_len test xs + 1 ≡ suc (position_or_len test xs + 1) = omega arith in
+    rw e (ap (λ (n : ℕ). take n (x ∷ xs)) n)
+
+-- ---- turns on some names and then on others
+
+module _ (files : Files) where
+  turns_first : (cache : Cache) (name : List ℕ) (names : List (List ℕ)) → (turns files cache (name ∷ names)).reads ≡ (turn files cache name).reads ++ (turns files (turn files cache name).cache names).reads
+  unfolding turns
+  turns_first cache name names = refl
+
+  turns_cache : (cache : Cache) (name : List ℕ) (names : List (List ℕ)) → (turns files cache (name ∷ names)).cache ≡ (turns files (turn files cache name).cache names).cache
+  unfolding turns
+  turns_cache cache name names = refl
+
+  turns_none : (cache : Cache) → (turns files cache []).reads ≡ []
+  unfolding turns
+  turns_none cache = refl
+
+  kept_none : (cache : Cache) → (turns files cache []).cache ≡ cache
+  unfolding turns
+  kept_none cache = refl
+
+  pub turns-reads : (cache : Cache) (xs ys : List (List ℕ)) → (turns files cache (xs ++ ys)).reads ≡ (turns files cache xs).reads ++ (turns files (turns files cache xs).cache ys).reads
+  turns-reads cache [] ys = ap (λ (c : Cache). (turns files c ys).reads) (sym (kept_none cache)) ∙ ap (λ (reads : List Read). reads ++ (turns files (turns files cache []).cache ys).reads) (sym (turns_none cache))
+  turns-reads cache (x ∷ xs) ys =
+      let now = (turn files cache x).cache in
+      let first = (turn files cache x).reads in
+      turns_first cache x (xs ++ ys) ∙ ap (λ (reads : List Read). first ++ reads) (turns-reads now xs ys)
+      ∙ sym (append_assoc first (turns files now xs).reads (turns files (turns files now xs).cache ys).reads)
+      ∙ ap₂ (λ (reads : List Read) (c : Cache). reads ++ (turns files c ys).reads) (sym (turns_first cache x xs)) (sym (turns_cache cache x xs))
+
+  pub turns-kept : (cache : Cache) (xs ys : List (List ℕ)) → (turns files cache (xs ++ ys)).cache ≡ (turns files (turns files cache xs).cache ys).cache
+  turns-kept cache [] ys = ap (λ (c : Cache). (turns files c ys).cache) (sym (kept_none cache))
+  turns-kept cache (x ∷ xs) ys = turns_cache cache x (xs ++ ys) ∙ turns-kept (turn files cache x).cache xs ys ∙ ap (λ (c : Cache). (turns files c ys).cache) (sym (turns_cache cache x xs))
+
+  one_read : (cache : Cache) (name : List ℕ) → (turns files cache (name ∷ [])).reads ≡ (turn files cache name).reads
+  one_read cache name = turns_first cache name [] ∙ ap (λ (reads : List Read). (turn files cache name).reads ++ reads) (turns_none (turn files cache name).cache) ∙ append-nil (turn files cache name).reads
+
+  one_kept : (cache : Cache) (name : List ℕ) → (turns files cache (name ∷ [])).cache ≡ (turn files cache name).cache
+  one_kept cache name = turns_cache cache name [] ∙ kept_none (turn files cache name).cache
+
+  -- ---- a call with one turn
+
+  module _ {R Y : Type 0} (Is : Y → R → Type 0) (due : Result Y Refusal) (name : List ℕ) (held held_now : List HeldMovie) (log log_now : Option (List Read)) where
+    -- the turn was refused
+    pub toured_unloaded : (e : Refusal) (f : Movie → Result Y Refusal) → due ≡ (loaded files name >>= f) → IsTurn files name (Err e) held held_now log log_now
+        → IsTour files Is due (name ∷ []) (Err e) held held_now log log_now
+    toured_unloaded e f is t = record {
+      true_now = t.true_now;
+      answered = λ known_memory known_store. is ∙ not_loaded (loaded files name) f e (t.answered known_memory known_store);
+      names_now = tt;
+      logged = subst (λ (reads : List Read). LogsErr e reads log log_now) (sym (one_read (names_held held) name)) t.logged;
+    }
+
+    -- it wasn't
+    pub toured_loaded : (x : Unit {0}) (result : Result R Refusal) → IsTurn files name (Ok x) held held_now log log_now → StandsFor Is result due
+        → IsTour files Is due (name ∷ []) result held held_now log log_now
+    toured_loaded x (Ok r) t answered = record {
+      true_now = t.true_now;
+      answered = answered;
+      names_now = t.names ∙ sym (one_kept (names_held held) name);
+      logged = t.logged ∙ ap (told_with log) (sym (one_read (names_held held) name));
+    }
+    toured_loaded x (Err e) t answered =
+        let all = t.logged ∙ ap (told_with log) (sym (one_read (names_held held) name)) in
+        record {
+          true_now = t.true_now;
+          answered = answered;
+          names_now = tt;
+          logged = whole_err e (turns files (names_held held) (name ∷ [])).reads all;
+        }
+      where
+        whole_err : (e : Refusal) (reads : List Read) → log_now ≡ told_with log reads → LogsErr e reads log log_now
+        whole_err e reads is = logs_all {X = R} (Err e) reads log log_now is
+
+  -- ---- steps
+
+  module _ {X Y : Type 0} (f : X → Result Y Refusal) (looks : X → List (List ℕ)) where
+    abbrev names : List X → List (List ℕ)
+    names xs = names_of_steps f looks xs
+
+    names_good : (x : X) (xs : List X) (y : Y) → f x ≡ Ok y → names (x ∷ xs) ≡ looks x ++ names xs
+    names_good x xs y e = ap (flat_map looks) (through_more (λ x. is_err (f x)) x xs (ap (λ (r : Result Y Refusal). is_err r) e))
+
+    names_bad : (x : X) (xs : List X) (e : Refusal) → f x ≡ Err e → names (x ∷ xs) ≡ looks x
+    names_bad x xs e is = ap (flat_map looks) (through_stop (λ x. is_err (f x)) x xs (ap (λ (r : Result Y Refusal). is_err r) is)) ∙ append-nil (looks x)
+
+    names_first : (x : X) (xs : List X) → (rest : List (List ℕ)) × (names (x ∷ xs) ≡ looks x ++ rest) × ((e : Refusal) → f x ≡ Err e → rest ≡ [])
+    names_first x xs = by (f x) refl
+      where
+        by : (r : Result Y Refusal) → f x ≡ r → (rest : List (List ℕ)) × (names (x ∷ xs) ≡ looks x ++ rest) × ((e : Refusal) → f x ≡ Err e → rest ≡ [])
+        by (Ok y) is = (names xs, names_good x xs y is, λ e refused. absurd (let both : ◌≡◌ {A = Result Y Refusal} (Ok y) (Err e) = sym is ∙ refused in cc))
+        by (Err d) is = ([], names_bad x xs d is ∙ sym (append-nil (looks x)), λ e refused. refl)
+
+    rest_first : (all left : List X) (done : List Y) (x : X) (e : Refusal) → each_in_turn f all ≡ (each_in_turn f (x ∷ left) >>= λ later. Ok (done ++ later)) → f x ≡ Err e → each_in_turn f all ≡ Err e
+    rest_first all left done x e is refused = is ∙ ap (λ (r : Result Y Refusal). (r >>= λ y. each_in_turn f left >>= λ ys. Ok (y ∷ ys)) >>= λ later. Ok (done ++ later)) refused
+
+    pub tour_begins : (all : List X) (held : List HeldMovie) (log : Option (List Read)) → AreTrue files held → IsOnTour files f looks all all [] held held log log
+    tour_begins all held log h = record { true_now = h; rest = rest (each_in_turn f all); made = []; reads = refl; names_now = refl; logged = sym (told_with-nil log) }
+      where
+        rest : (r : Result (List Y) Refusal) → r ≡ (r >>= λ later. Ok ([] ++ later))
+        rest (Ok xs) = refl
+        rest (Err e) = refl
+
+    module _ (all : List X) (done : List Y) (begun held : List HeldMovie) (log log_now : Option (List Read)) where
+      module _ {R : Type 0} (Is : Y → R → Type 0) (x : X) (left : List X) (t : IsOnTour files f looks all (x ∷ left) done begun held log log_now) (held_now : List HeldMovie) (log_then : Option (List Read)) where
+        -- a step was taken
+        pub tour_on : (r : R) (step : IsTour files Is (f x) (looks x) (Ok r) held held_now log_now log_then) → IsOnTour files f looks all left (done ++ step.answered.0 ∷ []) begun held_now log log_then
+        tour_on r step =
+            let y = step.answered.0 in
+            let read = (turns files (names_held held) (looks x)).reads in
+            let named = names_good x left y step.answered.1 in
+            record {
+              true_now = step.true_now;
+              rest = t.rest ∙ ap (λ (r : Result Y Refusal). (r >>= λ y. each_in_turn f left >>= λ ys. Ok (y ∷ ys)) >>= λ later. Ok (done ++ later)) step.answered.1 ∙ moved y (each_in_turn f left);
+              made = t.made ++ read;
+              reads = t.reads ∙ ap (λ (ns : List (List ℕ)). t.made ++ (turns files (names_held held) ns).reads) named
+                  ∙ ap (λ (reads : List Read). t.made ++ reads) (turns-reads (names_held held) (looks x) (names left))
+                  ∙ ap (λ (c : Cache). t.made ++ (read ++ (turns files c (names left)).reads)) (sym step.names_now)
+                  ∙ sym (append_assoc t.made read (turns files (names_held held_now) (names left)).reads);
+              names_now = t.names_now ∙ ap (λ (ns : List (List ℕ)). (turns files (names_held held) ns).cache) named ∙ turns-kept (names_held held) (looks x) (names left)
+                  ∙ ap (λ (c : Cache). (turns files c (names left)).cache) (sym step.names_now);
+              logged = told_with-more log log_now log_then t.made read t.logged step.logged;
+            }
+          where
+            moved : (y : Y) (r : Result (List Y) Refusal) → ((r >>= λ ys. Ok (y ∷ ys)) >>= λ later. Ok (done ++ later)) ≡ (r >>= λ ys. Ok ((done ++ y ∷ []) ++ ys))
+            moved y (Ok ys) = ap Ok (sym (append_assoc done (y ∷ []) ys))
+            moved y (Err e) = refl
+
+        -- a step was refused, or cut short
+        pub tour_refused : {S Z : Type 0} (Are : Z → S → Type 0) (due : Result Z Refusal) (e : Refusal) → (each_in_turn f all ≡ Err e → due ≡ Err e) → IsTour files Is (f x) (looks x) (Err e) held held_now log_now log_then
+            → IsTour files Are due (names all) (Err e) begun held_now log log_then
+        tour_refused {S = S} Are due e whole step =
+            let first = names_first x left in
+            let read = (turns files (names_held held) (looks x)).reads in
+            let others = (turns files (turns files (names_held held) (looks x)).cache first.0).reads in
+            let every : (turns files (names_held begun) (names all)).reads ≡ t.made ++ (read ++ others) =
+            t.reads ∙ ap (λ (ns : List (List ℕ)). t.made ++ (turns files (names_held held) ns).reads) first.1 ∙ ap (λ (reads : List Read). t.made ++ reads) (turns-reads (names_held held) (looks x) first.0) in
+            record {
+              true_now = step.true_now;
+              answered = λ known_memory known_store. whole (rest_first all left done x e t.rest (step.answered known_memory known_store));
+              names_now = tt;
+              logged = subst (λ (reads : List Read). LogsErr e reads log log_then) (sym every)
+                  (logs_then {X = S} (Err e) t.made (read ++ others) log log_now log_then t.logged
+                  (logs_ended e read others log_now log_then step.logged
+                  (λ known_memory known_store. ap (λ (ns : List (List ℕ)). (turns files (turns files (names_held held) (looks x)).cache ns).reads) (first.2 e (step.answered known_memory known_store))
+                  ∙ turns_none (turns files (names_held held) (looks x)).cache)));
+            }
+
+      -- none is left
+      pub tour_ended : {S Z : Type 0} (Are : Z → S → Type 0) (due : Result Z Refusal) (s : S) (z : Z) → (each_in_turn f all ≡ Ok done → due ≡ Ok z) → Are z s → IsOnTour files f looks all [] done begun held log log_now
+          → IsTour files Are due (names all) (Ok s) begun held log log_now
+      tour_ended Are due s z whole are t = record {
+        true_now = t.true_now;
+        answered = (z, whole (t.rest ∙ ap Ok (append-nil done)), are);
+        names_now = sym (t.names_now ∙ kept_none (names_held held));
+        logged = t.logged ∙ ap (told_with log) (sym (t.reads ∙ ap (λ (reads : List Read). t.made ++ reads) (turns_none (names_held held)) ∙ append-nil t.made));
+      }
+
+      -- a call was cut short between steps, for want of memory
+      pub tour_cut : {S Z : Type 0} (Are : Z → S → Type 0) (due : Result Z Refusal) (left : List X) (e : Refusal) → e ≡ NoMemory → IsOnTour files f looks all left done begun held log log_now
+          → IsTour files Are due (names all) (Err e) begun held log log_now
+      tour_cut Are due left e is t = record {
+        true_now = t.true_now;
+        answered = λ known_memory known_store. absurd (known_memory is);
+        names_now = tt;
+        logged = (
+            record { front = t.made; back = (turns files (names_held held) (names left)).reads; split = t.reads; grew = t.logged },
+            λ known_memory known_store. absurd (known_memory is),
+        );
+      }
