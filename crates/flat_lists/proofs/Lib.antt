@@ -3,3 +3,7 @@ pub mod ListedCells
 pub mod ListedParts
 pub mod ListedTimelines
 pub mod Tours
+pub mod PartLemmas
+pub mod LookedLemmas
+pub mod BandwidthLemmas
+pub mod CodecLemmas

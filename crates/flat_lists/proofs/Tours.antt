@@ -1,7 +1,8 @@
 -- Calls that look at the files of several pieces, one after another.
-use Rattle.std.proofs.Common.{◌≡◌, ◌≢◌, ℕ, suc, ◌+◌, Bool, true, false, List, [], ◌∷◌, ◌++◌, Option, Result, Ok, Err, refl, sym, ap, ap₂, ◌∙◌, subst, arith, take, append_assoc, append-nil}
+use Rattle.std.proofs.Common.{◌≡◌, ◌≢◌, ℕ, suc, ◌+◌, Bool, true, false, List, [], ◌∷◌, ◌++◌, Option, Some, slice_get, Result, Ok, Err, refl, sym, ap, ap₂, ◌∙◌, subst, arith, take, append_assoc, append-nil}
 use Rattle.std.specs.Prelude.{flat_map, is_err}
 use Rattle.std.specs.List.{position_or_len}
+use Rattle.std.proofs.lemmas.Option.{same_Some}
 use Rattle.vod_types.specs.declared.refusal.Refusal.{Refusal}
 use Rattle.vod_types.specs.declared.refusal.Refusal.TheVariants.{NoMemory, StoreFailed}
 use Rattle.vod_types.specs.Lists.{through_first}
@@ -195,4 +196,60 @@ module _ (files : Files) where
             record { front = t.made; back = (turns files (names_held held) (names left)).reads; split = t.reads; grew = t.logged },
             λ known_memory known_store. absurd (known_memory is),
         );
+      }
+
+-- ---- one call after another
+
+-- a turn on a name is one on the same name
+pub renamed : (files : Files) (name other : List ℕ) (r : Result (Unit {0}) Refusal) (held held_now : List HeldMovie) (log log_now : Option (List Read))
+    → name ≡ other → IsTurn files name r held held_now log log_now → IsTurn files other r held held_now log log_now
+renamed files name other r held held_now log log_now e t = subst (λ (name : List ℕ). IsTurn files name r held held_now log log_now) e t
+
+-- what is in front after a turn is the movie of the file
+pub in_front : (files : Files) (name : List ℕ) (x : Unit {0}) (held held_now : List HeldMovie) (log log_now : Option (List Read)) (h : HeldMovie)
+    → slice_get held_now 0 ≡ Some h → IsTurn files name (Ok x) held held_now log log_now → loaded files name ≡ Ok h.movie
+in_front files name x held held_now log log_now h e t = t.front.3 ∙ ap (λ (h : HeldMovie). Ok h.movie) (same_Some t.front.0 h (sym t.front.1 ∙ e))
+
+module _ (files : Files) {R Y S Z : Type 0} (Is : Y → R → Type 0) (Are : Z → S → Type 0) (first : Result Y Refusal) (due : Result Z Refusal) (front back all : List (List ℕ)) (held middle held_now : List HeldMovie)
+    (log log_then log_now : Option (List Read)) where
+  -- the first call was refused, or cut short
+  pub tour_failed : (e : Refusal) → all ≡ front ++ back → (first ≡ Err e → back ≡ []) → (first ≡ Err e → due ≡ Err e) → IsTour files Is first front (Err e) held middle log log_then
+      → IsTour files Are due all (Err e) held middle log log_then
+  tour_failed e named none whole t =
+      let read = (turns files (names_held held) front).reads in
+      let others = (turns files (turns files (names_held held) front).cache back).reads in
+      let every : (turns files (names_held held) all).reads ≡ read ++ others = ap (λ (ns : List (List ℕ)). (turns files (names_held held) ns).reads) named ∙ turns-reads files (names_held held) front back in
+      record {
+        true_now = t.true_now;
+        answered = λ known_memory known_store. whole (t.answered known_memory known_store);
+        names_now = tt;
+        logged = subst (λ (reads : List Read). LogsErr e reads log log_then) (sym every)
+            (logs_ended e read others log log_then t.logged
+            (λ known_memory known_store. ap (λ (ns : List (List ℕ)). (turns files (turns files (names_held held) front).cache ns).reads) (none (t.answered known_memory known_store))
+            ∙ turns_none files (turns files (names_held held) front).cache));
+      }
+
+  -- it wasn't
+  pub tour_then : {W : Type 0} (Then : W → S → Type 0) (second : Result W Refusal) (r : R) (result : Result S Refusal) → all ≡ front ++ back → IsTour files Is first front (Ok r) held middle log log_then
+      → IsTour files Then second back result middle held_now log_then log_now → (StandsFor Then result second → StandsFor Are result due)
+      → IsTour files Are due all result held held_now log log_now
+  tour_then Then second r (Ok s) named t u whole =
+      let read = (turns files (names_held held) front).reads in
+      let later : (turns files (names_held held) all).reads ≡ read ++ (turns files (names_held middle) back).reads =
+      ap (λ (ns : List (List ℕ)). (turns files (names_held held) ns).reads) named ∙ turns-reads files (names_held held) front back ∙ ap (λ (c : Cache). read ++ (turns files c back).reads) (sym t.names_now) in
+      record {
+        true_now = u.true_now;
+        answered = whole u.answered;
+        names_now = u.names_now ∙ ap (λ (c : Cache). (turns files c back).cache) t.names_now ∙ sym (ap (λ (ns : List (List ℕ)). (turns files (names_held held) ns).cache) named ∙ turns-kept files (names_held held) front back);
+        logged = told_with-more log log_then log_now read (turns files (names_held middle) back).reads t.logged u.logged ∙ ap (told_with log) (sym later);
+      }
+  tour_then Then second r (Err e) named t u whole =
+      let read = (turns files (names_held held) front).reads in
+      let later : (turns files (names_held held) all).reads ≡ read ++ (turns files (names_held middle) back).reads =
+      ap (λ (ns : List (List ℕ)). (turns files (names_held held) ns).reads) named ∙ turns-reads files (names_held held) front back ∙ ap (λ (c : Cache). read ++ (turns files c back).reads) (sym t.names_now) in
+      record {
+        true_now = u.true_now;
+        answered = whole u.answered;
+        names_now = tt;
+        logged = subst (λ (reads : List Read). LogsErr e reads log log_now) (sym later) (logs_then {X = S} (Err e) read (turns files (names_held middle) back).reads log log_then log_now t.logged u.logged);
       }

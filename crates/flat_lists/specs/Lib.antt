@@ -4,3 +4,5 @@ pub mod ListedCells
 pub mod ListedParts
 pub mod Listings
 pub mod Tours
+pub mod PartTracks
+pub mod LookedParts

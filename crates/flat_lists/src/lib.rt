@@ -3,12 +3,16 @@
 #![tactic(auto)]
 
 mod asking;
+mod bandwidths;
+mod codecs;
 mod description;
 mod iframes;
 mod listed_part;
 mod listed_parts;
 mod listed_timeline;
+mod looked_parts;
 mod master;
+mod part_tracks;
 
 pub use asking::{Asking, asking_of};
 pub use description::presentation_description;

@@ -12,4 +12,4 @@ mod tracks;
 pub use movies::{Movie, Movies};
 pub use samples::TimedSample;
 pub use selection::PartRows;
-pub use tracks::{CheckedTracks, check};
+pub use tracks::{CheckedTracks, check, exposed};

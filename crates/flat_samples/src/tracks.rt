@@ -166,8 +166,8 @@ fn shown_view<'a>(
     }
 }
 
-// The file's track that a list exposes under the asked name.
-fn exposed(movie: &Movie, listed: &[TrackName], asked: TrackName) -> Option<TrackName>
+/// The file's track that a list exposes under the asked name.
+pub fn exposed(movie: &Movie, listed: &[TrackName], asked: TrackName) -> Option<TrackName>
     ensures { result ≡ exposed_track (file_has movie.now.movie) listed.now asked }
 {
     if asked.number == 0 {
