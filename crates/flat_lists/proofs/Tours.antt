@@ -107,13 +107,13 @@ module _ (files : Files) where
     abbrev names : List X → List (List ℕ)
     names xs = names_of_steps f looks xs
 
-    names_good : (x : X) (xs : List X) (y : Y) → f x ≡ Ok y → names (x ∷ xs) ≡ looks x ++ names xs
+    pub names_good : (x : X) (xs : List X) (y : Y) → f x ≡ Ok y → names (x ∷ xs) ≡ looks x ++ names xs
     names_good x xs y e = ap (flat_map looks) (through_more (λ x. is_err (f x)) x xs (ap (λ (r : Result Y Refusal). is_err r) e))
 
     names_bad : (x : X) (xs : List X) (e : Refusal) → f x ≡ Err e → names (x ∷ xs) ≡ looks x
     names_bad x xs e is = ap (flat_map looks) (through_stop (λ x. is_err (f x)) x xs (ap (λ (r : Result Y Refusal). is_err r) is)) ∙ append-nil (looks x)
 
-    names_first : (x : X) (xs : List X) → (rest : List (List ℕ)) × (names (x ∷ xs) ≡ looks x ++ rest) × ((e : Refusal) → f x ≡ Err e → rest ≡ [])
+    pub names_first : (x : X) (xs : List X) → (rest : List (List ℕ)) × (names (x ∷ xs) ≡ looks x ++ rest) × ((e : Refusal) → f x ≡ Err e → rest ≡ [])
     names_first x xs = by (f x) refl
       where
         by : (r : Result Y Refusal) → f x ≡ r → (rest : List (List ℕ)) × (names (x ∷ xs) ≡ looks x ++ rest) × ((e : Refusal) → f x ≡ Err e → rest ≡ [])
@@ -253,3 +253,13 @@ module _ (files : Files) {R Y S Z : Type 0} (Is : Y → R → Type 0) (Are : Z �
         names_now = tt;
         logged = subst (λ (reads : List Read). LogsErr e reads log log_now) (sym later) (logs_then {X = S} (Err e) read (turns files (names_held middle) back).reads log log_then log_now t.logged u.logged);
       }
+
+-- a call without a turn
+pub toured_none : (files : Files) {R Y : Type 0} (Is : Y → R → Type 0) (due : Result Y Refusal) (r : R) (held : List HeldMovie) (log : Option (List Read)) → AreTrue files held → StandsFor Is (Ok r) due
+    → IsTour files Is due [] (Ok r) held held log log
+toured_none files Is due r held log known stands = record {
+  true_now = known;
+  answered = stands;
+  names_now = sym (kept_none files (names_held held));
+  logged = sym (told_with-nil log) ∙ ap (told_with log) (sym (turns_none files (names_held held)));
+}

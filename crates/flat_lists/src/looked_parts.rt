@@ -132,11 +132,13 @@ fn look_at_later<S: Store>(
     ensures store_failed { IsErrOf result StoreFailed → Rose (S.faults files.old) (S.faults files.new) }
 {
     let mut part = first;
-    for (place, piece) in pieces.iter().enumerate() {
-        match look_at(alloc, files, movies, edits, asked, place as u32 + 1, piece, &mut part) {
+    let mut place = 1;
+    for piece in pieces {
+        match look_at(alloc, files, movies, edits, asked, place, piece, &mut part) {
             Ok(()) => {}
             Err(refusal) => return Err(refusal),
         }
+        place += 1;
     }
     Ok(part)
 }
