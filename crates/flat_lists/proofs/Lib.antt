@@ -5,5 +5,9 @@ pub mod ListedTimelines
 pub mod Tours
 pub mod PartLemmas
 pub mod LookedLemmas
+pub mod SequenceLemmas
+pub mod FoundLemmas
+pub mod DescriptionLemmas
+pub mod AloneLemmas
 pub mod BandwidthLemmas
 pub mod CodecLemmas

@@ -36,7 +36,7 @@ same_err d e h = cc
 pub piece_refused : (edits : Bool) (asked : Asked) (piece : Piece) (m : Movie) (e : Refusal) → (e ≢ NoMemory → checked_in edits asked piece m ≡ Err e) → e ≢ StoreFailed
 piece_refused edits asked piece m e h = refusal-not_failed (checked_in edits asked piece m) e (checked_in-not_failed edits asked piece m) h
 
-checked_loaded : (files : Files) (edits : Bool) (asked : Asked) (piece : Piece) (m : Movie) → loaded files piece.name ≡ Ok m → checked files edits asked piece ≡ checked_in edits asked piece m
+pub checked_loaded : (files : Files) (edits : Bool) (asked : Asked) (piece : Piece) (m : Movie) → loaded files piece.name ≡ Ok m → checked files edits asked piece ≡ checked_in edits asked piece m
 checked_loaded files edits asked piece m e = checked-in files edits asked piece ∙ ap (λ (r : Result Movie Refusal). r >>= checked_in edits asked piece) e
 
 module _ (files : Files) (edits : Bool) (asked : Asked) (place : ℕ) (piece : Piece) (old now : PartSeen) (held held_now : List HeldMovie) (log log_now : Option (List Read)) where

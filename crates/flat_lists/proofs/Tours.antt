@@ -1,5 +1,5 @@
 -- Calls that look at the files of several pieces, one after another.
-use Rattle.std.proofs.Common.{◌≡◌, ◌≢◌, ℕ, suc, ◌+◌, Bool, true, false, List, [], ◌∷◌, ◌++◌, Option, Some, slice_get, Result, Ok, Err, refl, sym, ap, ap₂, ◌∙◌, subst, arith, take, append_assoc, append-nil}
+use Rattle.std.proofs.Common.{◌≡◌, ◌≢◌, ℕ, suc, ◌+◌, Bool, true, false, List, [], ◌∷◌, ◌++◌, map, Option, Some, slice_get, Result, Ok, Err, refl, sym, ap, ap₂, ◌∙◌, subst, arith, take, append_assoc, append-nil}
 use Rattle.std.specs.Prelude.{flat_map, is_err}
 use Rattle.std.specs.List.{position_or_len}
 use Rattle.std.proofs.lemmas.Option.{same_Some}
@@ -12,12 +12,13 @@ use Rattle.vod_source.specs.Calls.{LogsReads}
 use Rattle.vod_source.specs.Stored.{Files, Read}
 use Rattle.vod_source.specs.Told.{told_with}
 use Rattle.vod_source.proofs.CallLemmas.{LogsErr, logs_all, logs_then, logs_ended}
-use Rattle.vod_source.proofs.ToldLemmas.{told_with-nil, told_with-more}
+use Rattle.std.proofs.lemmas.List.{map-append}
+use Rattle.vod_source.proofs.ToldLemmas.{told_with-nil, told_with-more, GrewByPrefix-same}
 use Rattle.origin_model.specs.Loaded.{loaded}
 use Rattle.origin_model.specs.Reads.{Cache, turn, turns}
 use Rattle.flat_samples.specs.Movies.{HeldMovie, AreTrue, IsTurn, names_held}
 use Rattle.flat_samples.proofs.CheckLemmas.{not_loaded}
-use Rattle.flat_lists.specs.Tours.{StandsFor, HeldAfter, IsTour, IsOnTour, names_of_steps}
+use Rattle.flat_lists.specs.Tours.{StandsFor, HeldAfter, IsTour, IsWholeTour, IsOnTour, names_of_steps}
 
 -- ---- lists through an element
 
@@ -263,3 +264,75 @@ toured_none files Is due r held log known stands = record {
   names_now = sym (kept_none files (names_held held));
   logged = sym (told_with-nil log) ∙ ap (told_with log) (sym (turns_none files (names_held held)));
 }
+
+-- ---- a call that hands on what another one found
+
+module _ (files : Files) {R Y S Z : Type 0} (Is : Y → R → Type 0) (Are : Z → S → Type 0) (due : Result Y Refusal) (g : Y → Z) (names : List (List ℕ)) (held held_now : List HeldMovie) (log log_now : Option (List Read)) where
+  pub tour_ok : (r : R) (s : S) → ((y : Y) → Is y r → Are (g y) s) → IsTour files Is due names (Ok r) held held_now log log_now → IsTour files Are (due >>= λ y. Ok (g y)) names (Ok s) held held_now log log_now
+  tour_ok r s are t = record {
+    true_now = t.true_now;
+    answered = (g t.answered.0, ap (λ (d : Result Y Refusal). d >>= λ y. Ok (g y)) t.answered.1, are t.answered.0 t.answered.2);
+    names_now = t.names_now;
+    logged = t.logged;
+  }
+
+  pub tour_err : (e : Refusal) → IsTour files Is due names (Err e) held held_now log log_now → IsTour files Are (due >>= λ y. Ok (g y)) names (Err e) held held_now log log_now
+  tour_err e t = record {
+    true_now = t.true_now;
+    answered = λ known_memory known_store. ap (λ (d : Result Y Refusal). d >>= λ y. Ok (g y)) (t.answered known_memory known_store);
+    names_now = tt;
+    logged = t.logged;
+  }
+
+-- a call that is refused before it reads
+pub tour_unread : (files : Files) {R Y : Type 0} (Is : Y → R → Type 0) (due : Result Y Refusal) (names : List (List ℕ)) (e : Refusal) (held : List HeldMovie) (log : Option (List Read)) → AreTrue files held
+    → (e ≢ NoMemory → (due ≡ Err e) × (names ≡ [])) → IsTour files Is due names (Err e) held held log log
+tour_unread files Is due names e held log known refused = record {
+  true_now = known;
+  answered = λ known_memory known_store. (refused known_memory).0;
+  names_now = tt;
+  logged = (
+    GrewByPrefix-same log log (turns files (names_held held) names).reads refl,
+    λ known_memory known_store. sym (told_with-nil log) ∙ ap (told_with log) (sym (ap (λ (ns : List (List ℕ)). (turns files (names_held held) ns).reads) (refused known_memory).1 ∙ turns_none files (names_held held))),
+  );
+}
+
+-- ---- steps whose values are kept in a list
+
+pub record IsListWalk {X Y V : Type 0} (files : Files) (f : X → Result Y Refusal) (looks : X → List (List ℕ)) (kept : Y → V) (all left : List X) (seen : List V) (begun held : List HeldMovie) (log log_now : Option (List Read)) : Type 0 where
+  pub done : List Y
+  pub on : IsOnTour files f looks all left done begun held log log_now
+  pub seen_is : seen ≡ map kept done
+
+module _ {X Y V : Type 0} (files : Files) (f : X → Result Y Refusal) (looks : X → List (List ℕ)) (kept : Y → V) (all : List X) (begun : List HeldMovie) (log : Option (List Read)) where
+  pub list_begins : (seen : List V) → seen ≡ [] → AreTrue files begun → IsListWalk files f looks kept all all seen begun begun log log
+  list_begins seen none known = record { done = []; on = tour_begins files f looks all begun log known; seen_is = none }
+
+  module _ (left : List X) (seen : List V) (held : List HeldMovie) (log_now : Option (List Read)) (w : IsListWalk files f looks kept all left seen begun held log log_now) where
+    pub list_cut : {R : Type 0} (items : R → List V) (e : Refusal) → e ≡ NoMemory → IsTour files (λ ys r. items r ≡ map kept ys) (each_in_turn f all) (names_of_steps f looks all) (Err e) begun held log log_now
+    list_cut items e none = tour_cut files f looks all w.done begun held log log_now (λ ys r. items r ≡ map kept ys) (each_in_turn f all) left e none w.on
+
+    pub list_ended : {R : Type 0} (items : R → List V) (r : R) → left ≡ [] → items r ≡ seen → IsTour files (λ ys r. items r ≡ map kept ys) (each_in_turn f all) (names_of_steps f looks all) (Ok r) begun held log log_now
+    list_ended items r none are =
+        tour_ended files f looks all w.done begun held log log_now (λ ys r. items r ≡ map kept ys) (each_in_turn f all) r w.done (λ whole. whole) (are ∙ w.seen_is)
+        (subst (λ (xs : List X). IsOnTour files f looks all xs w.done begun held log log_now) none w.on)
+
+    module _ {R : Type 0} (Is : Y → R → Type 0) (x : X) (rest : List X) (at : left ≡ x ∷ rest) (held_now : List HeldMovie) (log_then : Option (List Read)) where
+      on_step : IsOnTour files f looks all (x ∷ rest) w.done begun held log log_now
+      on_step = subst (λ (xs : List X). IsOnTour files f looks all xs w.done begun held log log_now) at w.on
+
+      pub list_on : (r : R) (v : V) (then : List V) → ((y : Y) → Is y r → v ≡ kept y) → then ≡ seen ++ v ∷ [] → IsTour files Is (f x) (looks x) (Ok r) held held_now log_now log_then
+          → IsListWalk files f looks kept all rest then begun held_now log log_then
+      list_on r v then is more t = record {
+        done = w.done ++ t.answered.0 ∷ [];
+        on = tour_on files f looks all w.done begun held log log_now Is x rest on_step held_now log_then r t;
+        seen_is = more ∙ ap₂ (λ (vs : List V) (v : V). vs ++ v ∷ []) w.seen_is (is t.answered.0 t.answered.2) ∙ sym (map-append kept w.done (t.answered.0 ∷ []));
+      }
+
+      pub list_refused : {S : Type 0} (items : S → List V) (e : Refusal) → IsTour files Is (f x) (looks x) (Err e) held held_now log_now log_then
+          → IsTour files (λ ys r. items r ≡ map kept ys) (each_in_turn f all) (names_of_steps f looks all) (Err e) begun held_now log log_then
+      list_refused items e t = tour_refused files f looks all w.done begun held log log_now Is x rest on_step held_now log_then (λ ys r. items r ≡ map kept ys) (each_in_turn f all) e (λ e. e) t
+
+pub whole_tour : (files : Files) {R Y : Type 0} (Is : Y → R → Type 0) (due : Result Y Refusal) (names : List (List ℕ)) (result : Result R Refusal) (held_now : List HeldMovie) (log log_now : Option (List Read))
+    → IsTour files Is due names result [] held_now log log_now → IsWholeTour files Is due names result log log_now
+whole_tour files Is due names result held_now log log_now t = record { answered = t.answered; logged = t.logged }

@@ -6,3 +6,5 @@ pub mod Listings
 pub mod Tours
 pub mod PartTracks
 pub mod LookedParts
+pub mod LookedSequences
+pub mod Described

@@ -1,5 +1,5 @@
 -- Calls that look at the files of several pieces, one after another, over the movies that are held; this project's own.
-use Rattle.std.specs.Prelude.{◌≡◌, ◌≢◌, List, ◌++◌, flat_map, is_err, Option, Result, Ok, Err}
+use Rattle.std.specs.Prelude.{◌≡◌, ◌≢◌, ℕ, List, [], ◌++◌, flat_map, is_err, Option, Result, Ok, Err}
 use Rattle.vod_types.specs.declared.refusal.Refusal.{Refusal}
 use Rattle.vod_types.specs.declared.refusal.Refusal.TheVariants.{NoMemory, StoreFailed}
 use Rattle.vod_types.specs.Lists.{through_first}
@@ -9,7 +9,6 @@ use Rattle.vod_source.specs.Stored.{Files, Read}
 use Rattle.vod_source.specs.Told.{told_with}
 use Rattle.origin_model.specs.Reads.{turns}
 use Rattle.flat_samples.specs.Movies.{HeldMovie, AreTrue, names_held}
-use Rattle.std.specs.Prelude.{ℕ}
 
 -- what was answered stands for what is due, unless the store failed or memory ran out
 abbrev pub StandsFor : {R Y : Type 0} → (Y → R → Type 0) → Result R Refusal → Result Y Refusal → Type 0
@@ -27,6 +26,11 @@ pub record IsTour {R Y : Type 0} (files : Files) (Is : Y → R → Type 0) (due 
   pub answered : StandsFor Is result due
   pub names_now : HeldAfter files names result held held_now
   pub logged : LogsReads result (turns files (names_held held) names).reads log log_now
+
+-- the same over no movie that is held, whatever it leaves
+pub record IsWholeTour {R Y : Type 0} (files : Files) (Is : Y → R → Type 0) (due : Result Y Refusal) (names : List (List ℕ)) (result : Result R Refusal) (log log_now : Option (List Read)) : Type 0 where
+  pub answered : StandsFor Is result due
+  pub logged : LogsReads result (turns files [] names).reads log log_now
 
 -- the names that are looked at for steps, through the first that is refused
 abbrev pub names_of_steps : {X Y : Type 0} → (X → Result Y Refusal) → (X → List (List ℕ)) → List X → List (List ℕ)

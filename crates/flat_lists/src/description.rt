@@ -1,14 +1,19 @@
 //! Media presentation descriptions, over all pieces of all sequences.
 
-ghost use Rattle.std.specs.Prelude.{◌≡◌, ◌≤◌, IfSome, IsErrOf};
+ghost use Rattle.std.specs.Prelude.{List, ◌≡◌, ◌≢◌, ◌≤◌, All, IfErr, IfSome, IsErrOf, map};
 ghost use Rattle.vod_types.specs.declared.paths.Leaf.TheVariants.{Mpd};
 ghost use Rattle.vod_types.specs.declared.refusal.Refusal.TheVariants.{StoreFailed};
+ghost use Rattle.vod_types.specs.Results.{Answers};
 ghost use Rattle.vod_source.specs.Calls.{Came};
 ghost use Rattle.vod_source.specs.Causes.{Rose};
+ghost use Rattle.origin_model.specs.Requests.{Setup};
 ghost use Rattle.flat_lists.specs.Asked.{asking_view, setup_of};
+ghost use Rattle.flat_lists.specs.Described.{AreFound, described_due, sequence_view};
 ghost use Rattle.flat_lists.specs.Listings.{leaf_turns, description_due};
+ghost use Rattle.flat_lists.specs.LookedSequences.{IsLookedSequence, SequenceFound};
 
 use crate::asking::Asking;
+use crate::looked_sequences::{LookedSequence, look_at_sequences};
 use std::alloc::Global;
 use vod_source::Store;
 use vod_types::{Refusal, Settings};
@@ -31,6 +36,24 @@ pub fn presentation_description<S: Store>(
     ensures content { S.content files.new ≡ S.content files.old }
     ensures later { S.faults files.old ≤ S.faults files.new }
     ensures store_failed { IsErrOf result StoreFailed → Rose (S.faults files.old) (S.faults files.new) }
+{
+    match look_at_sequences(alloc, files, settings, root, asking) {
+        Ok(looked) => described(alloc, settings, asking, &looked),
+        Err(refusal) => Err(refusal),
+    }
+}
+
+// The description over sequences whose pieces were looked at.
+fn described(
+    _alloc: Global,
+    _settings: &Settings,
+    _asking: &Asking,
+    _looked: &[LookedSequence],
+) -> Result<Vec<u8>, Refusal>
+    requires each { All IsLookedSequence _looked.now }
+    ensures text { (o : Setup) (fs : List SequenceFound) → o.settings ≡ _settings.now → AreFound o (asking_view _asking.now) fs _looked.now →
+        Answers (λ text. text.items) result (described_due o (asking_view _asking.now) (map sequence_view fs)) }
+    ensures not_failed { IfErr result (λ refusal. refusal ≢ StoreFailed) }
 {
     Err(Refusal::NoMemory)
 }

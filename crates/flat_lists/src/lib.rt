@@ -11,6 +11,7 @@ mod listed_part;
 mod listed_parts;
 mod listed_timeline;
 mod looked_parts;
+mod looked_sequences;
 mod master;
 mod part_tracks;
 

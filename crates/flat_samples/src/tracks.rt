@@ -166,7 +166,7 @@ fn shown_view<'a>(
     }
 }
 
-/// The file's track that a list exposes under the asked name.
+/// The track of a movie's file that a list exposes under the asked name.
 pub fn exposed(movie: &Movie, listed: &[TrackName], asked: TrackName) -> Option<TrackName>
     ensures { result ≡ exposed_track (file_has movie.now.movie) listed.now asked }
 {
