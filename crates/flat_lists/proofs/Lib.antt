@@ -8,6 +8,7 @@ pub mod LookedLemmas
 pub mod SequenceLemmas
 pub mod FoundLemmas
 pub mod DescriptionLemmas
+pub mod CountLemmas
 pub mod AloneLemmas
 pub mod BandwidthLemmas
 pub mod CodecLemmas

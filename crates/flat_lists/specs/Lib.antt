@@ -8,3 +8,4 @@ pub mod PartTracks
 pub mod LookedParts
 pub mod LookedSequences
 pub mod Described
+pub mod Counted

@@ -5,6 +5,7 @@
 mod asking;
 mod bandwidths;
 mod codecs;
+mod counted_cells;
 mod description;
 mod iframes;
 mod listed_part;
