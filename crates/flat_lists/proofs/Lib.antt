@@ -9,6 +9,7 @@ pub mod SequenceLemmas
 pub mod FoundLemmas
 pub mod DescriptionLemmas
 pub mod CountLemmas
+pub mod CellsFound
 pub mod AloneLemmas
 pub mod BandwidthLemmas
 pub mod CodecLemmas

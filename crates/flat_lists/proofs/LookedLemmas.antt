@@ -232,7 +232,7 @@ part_of_some m sequence pieces first later seen now e of with = record {
 
 module _ (files : Files) (edits : Bool) where
   -- the parts of what is found of a first piece
-  first_parts : (piece : Piece) (f : Asked × CheckedPiece) → first_found files edits piece ≡ Ok f → ((loaded files piece.name >>= asked_in piece) ≡ Ok f.0) × (checked files edits f.0 piece ≡ Ok f.1)
+  pub first_parts : (piece : Piece) (f : Asked × CheckedPiece) → first_found files edits piece ≡ Ok f → ((loaded files piece.name >>= asked_in piece) ≡ Ok f.0) × (checked files edits f.0 piece ≡ Ok f.1)
   first_parts piece f e =
       let movie = bind_ok (loaded files piece.name) (first_in edits piece) f e in
       let asked = bind_ok (asked_in piece movie.0) _ f movie.2 in

@@ -48,6 +48,7 @@ pub(crate) fn look_at_sequences<S: Store>(
         AreSequences (λ ss. ss.items) (setup_of settings.now root.now known) (asking_view asking.now) result (S.log files.old) (S.log files.new)) }
     ensures each { IfOk result (λ ss. All IsLookedSequence ss.items) }
     ensures some { IfOk result (λ ss. length ss.items ≡ length asking.now.mapping.sequences) }
+    ensures count { IfOk result (λ ss. IsInRange 1 32 (length ss.items)) }
     ensures content { S.content files.new ≡ S.content files.old }
     ensures later { S.faults files.old ≤ S.faults files.new }
     ensures store_failed { IsErrOf result StoreFailed → Rose (S.faults files.old) (S.faults files.new) }

@@ -91,3 +91,8 @@ returns-clause-told g c =
     whole_tour known _ _ _ _ _ _ _
     (list_ended known (sequence_found o a) (sequence_names o a) (sequence_kept a.mapping) (numbers o a) [] _ _ _ _ _ w (λ ss. map sequence_seen ss.items) _
     (drop_all c.loop-place.place (numbers o a) (let past : length (numbers o a) ≤ c.loop-place.place = let many = length-range_with_len 1 n in omega (arith, many, c.sequences-place-end.ensures.count) in past)) refl))
+
+pub returns-clause-count : goal.returns-clause-count
+returns-clause-count g c =
+    let rules = c.sequences-place-end.ensures.rules.count in
+    (omega (arith, rules.0, c.sequences-place-end.ensures.count, c.loop-place.invariant.count), omega (arith, rules.1, c.sequences-place-end.ensures.count, c.loop-place.invariant.count))
