@@ -1,5 +1,5 @@
 -- A piece that is checked with several tracks, as if one of them was asked alone.
-use Rattle.std.proofs.Common.{◌≡◌, ℕ, Bool, List, [], ◌∷◌, map, Option, Some, None, Result, Ok, Err, refl, sym, ap, ap₂, ◌∙◌}
+use Rattle.std.proofs.Common.{◌≡◌, ℕ, Bool, List, [], ◌∷◌, map, Option, Some, None, Result, Ok, sym, ap, ap₂, ◌∙◌}
 use Rattle.std.specs.Result.{result_unwrap_or}
 use Rattle.vod_types.specs.declared.refusal.Refusal.{Refusal}
 use Rattle.vod_types.specs.declared.tracks.Asked.{Asked}

@@ -1,5 +1,5 @@
 -- The cells of the parts of sequences that were looked at are those of what is found.
-use Rattle.std.proofs.Common.{◌≡◌, ◌≢◌, ◌≤◌, ◌<◌, ℕ, zero, suc, ◌+◌, Bool, List, [], ◌∷◌, ◌++◌, map, drop, ◌⊎◌, inl, inr, Option, Some, None, Result, Ok, Err, IfOk, IfErr, refl, sym, ap, ap₂, ◌∙◌, subst, arith, slice_get}
+use Rattle.std.proofs.Common.{◌≡◌, ◌≤◌, ◌<◌, ℕ, zero, suc, ◌+◌, Bool, List, [], ◌∷◌, ◌++◌, map, drop, ◌⊎◌, inl, inr, Option, Some, None, Result, Ok, Err, IfOk, IfErr, refl, sym, ap, ap₂, ◌∙◌, subst, arith, slice_get}
 use Rattle.std.specs.Prelude.{option_map, option_to_list, sum_by, unwrap_or}
 use Rattle.std.specs.List.{enumerate_from}
 use Rattle.std.specs.Bool.{then_some}
@@ -21,16 +21,16 @@ use Rattle.clip_model.specs.declared.Piece.{Piece}
 use Rattle.clip_model.specs.Mapping.{Mapping}
 use Rattle.clip_model.specs.Timeline.{Timeline}
 use Rattle.segment_model.specs.Grid.{SegmentGrid, cells, length_of, milliseconds, part_grid}
-use Rattle.segment_model.specs.Timeline.{SourcePiece, SourcePart, TrackRows, lead_end, timeline}
+use Rattle.segment_model.specs.Timeline.{SourcePiece, SourcePart, lead_end, timeline}
 use Rattle.list_model.specs.Manifest.{manifest}
 use Rattle.list_model.specs.Names.{first_of_kind}
 use Rattle.origin_model.specs.Lists as lists
 use Rattle.origin_model.specs.Lists.{CheckedSequence, asked_first, first_track, kind_cells, kinds_of}
 use Rattle.origin_model.specs.Loaded.{CheckedPiece, checked, loaded}
 use Rattle.origin_model.specs.Plans.{few_cells}
-use Rattle.origin_model.specs.Requests.{Setup, Asking, cutting, grid_in_use, honours_edits, timeline_asked}
+use Rattle.origin_model.specs.Requests.{Setup, Asking, grid_in_use, honours_edits, timeline_asked}
 use Rattle.origin_model.specs.Samples.{checked_track}
-use Rattle.origin_model.specs.Sources.{part_pieces, source_of, source_part, source_piece}
+use Rattle.origin_model.specs.Sources.{part_pieces, source_of, source_part}
 use Rattle.origin_model.specs.Writable.{IsSoundIf}
 use Rattle.flat_samples.specs.Checks.{checked_in}
 use Rattle.flat_samples.proofs.CheckLemmas.{checked-whole}
@@ -38,7 +38,7 @@ use Rattle.flat_lists.specs.Counted.{all_cells, counted, length_seen, part_cells
 use Rattle.flat_lists.specs.Described.{AreFound, described_due, part_view, periods_due, sequence_view}
 use Rattle.flat_lists.specs.LookedParts.{PartFound, first_found, part_found}
 use Rattle.flat_lists.specs.LookedSequences.{FoundPart, SequenceFound, SequenceSeen, found_in, looked_seen, numbers, part_kept, sequence_found, sequence_kept, sequence_seen}
-use Rattle.flat_lists.specs.PartTracks.{Seen, alone, asked_in, facts_due, first_in, part_due, rows_alone, seen_due}
+use Rattle.flat_lists.specs.PartTracks.{asked_in, facts_due, first_in, rows_alone, seen_due}
 use Rattle.flat_lists.specs.declared.looked_sequences.LookedSequence.{LookedSequence}
 use Rattle.flat_lists.proofs.AloneLemmas.{number_of, sources_alone}
 use Rattle.flat_lists.proofs.ListedTimelines.{cells_many}

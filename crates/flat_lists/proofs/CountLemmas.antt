@@ -1,5 +1,5 @@
 -- The cells of the parts of sequences that were looked at.
-use Rattle.std.proofs.Common.{◌≡◌, ◌≤◌, ◌<◌, ◌^◌, ℕ, ◌+◌, List, ◌∷◌, length, drop, get_or, Option, Some, None, IfSome, All, refl, sym, ap, ◌∙◌, subst, arith}
+use Rattle.std.proofs.Common.{◌≡◌, ◌≤◌, ◌<◌, ◌^◌, ℕ, ◌+◌, List, length, drop, get_or, Option, Some, None, IfSome, All, sym, ap, subst, arith}
 use Rattle.std.specs.Prelude.{sum_by, unwrap_or}
 use Rattle.seq_timeline.proofs.PieceLemmas.{drop_item}
 use Rattle.std.proofs.lemmas.List.Sums.{sum_by-cons}

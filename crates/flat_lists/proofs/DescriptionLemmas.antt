@@ -1,5 +1,5 @@
 -- Media presentation descriptions: what is due and read, from what is found.
-use Rattle.std.proofs.Common.{◌≡◌, ◌≢◌, ℕ, List, [], map, Option, Result, Ok, Err, refl, sym, ap, ◌∙◌, subst}
+use Rattle.std.proofs.Common.{◌≡◌, ℕ, List, [], map, Option, Result, Ok, Err, refl, sym, ap, ◌∙◌, subst}
 use Rattle.std.specs.Prelude.{sum_by}
 use Rattle.std.specs.List.{enumerate_from}
 use Rattle.vod_types.specs.declared.paths.Leaf.TheVariants.{Mpd}
@@ -7,8 +7,8 @@ use Rattle.vod_types.specs.declared.refusal.Refusal.{Refusal}
 use Rattle.vod_types.specs.Results.{◌>>=◌, ◌>>◌, Answers, each_in_turn}
 use Rattle.list_model.specs.declared.Period.{Period}
 use Rattle.list_model.specs.Manifest.{manifest}
-use Rattle.vod_source.specs.Calls.{Came, LogsReads}
-use Rattle.vod_source.specs.Stored.{Files, Read}
+use Rattle.vod_source.specs.Calls.{Came}
+use Rattle.vod_source.specs.Stored.{Read}
 use Rattle.vod_source.specs.Told.{told_with}
 use Rattle.vod_source.proofs.CallLemmas.{LogsErr, came-read}
 use Rattle.origin_model.specs.Lists.{CheckedSequence, checked_sequence, first_parts, period_of, periods, sequence_cells, sequence_numbers}

@@ -1,5 +1,5 @@
 -- What is found of the sequences of a request is what media presentation descriptions are made of, and the names that are looked at are those of its turns.
-use Rattle.std.proofs.Common.{◌≡◌, ℕ, Bool, true, false, List, [], ◌∷◌, ◌++◌, map, cond, Option, Some, None, Result, Ok, Err, refl, sym, ap, ap₂, ◌∙◌}
+use Rattle.std.proofs.Common.{◌≡◌, ℕ, Bool, true, false, List, [], ◌∷◌, ◌++◌, map, Some, None, Result, Ok, Err, refl, sym, ap, ap₂, ◌∙◌}
 use Rattle.std.specs.Prelude.{flat_map, is_err}
 use Rattle.std.specs.Result.{result_unwrap_or}
 use Rattle.std.proofs.lemmas.List.{map-append}
@@ -20,7 +20,7 @@ use Rattle.origin_model.specs.Requests.{Setup, Asking, honours_edits, timeline_a
 use Rattle.origin_model.specs.Sources.{part_pieces}
 use Rattle.flat_samples.specs.Checks.{checked_in}
 use Rattle.flat_lists.specs.PartTracks.{asked_in, first_in}
-use Rattle.flat_lists.specs.LookedParts.{PartFound, checked_by, first_found, name_alone, part_found, part_names}
+use Rattle.flat_lists.specs.LookedParts.{PartFound, first_found, name_alone, part_found, part_names}
 use Rattle.flat_lists.specs.LookedSequences.{FoundPart, SequenceFound, found_in, names_in, numbers, sequence_found, sequence_names, sequences_found}
 use Rattle.flat_lists.specs.Described.{part_view, sequence_view}
 use Rattle.flat_lists.specs.Tours.{names_of_steps}

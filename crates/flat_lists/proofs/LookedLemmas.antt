@@ -1,14 +1,11 @@
 -- Looks at the pieces of a part.
-use Rattle.std.proofs.Common.{◌≡◌, ◌≢◌, ◌≤◌, ℕ, zero, suc, ◌+◌, take, drop, Bool, true, false, List, [], ◌∷◌, ◌++◌, length, map, Option, Some, None, Result, Ok, Err, OnOk, IfErr, IfOk, IsErrOf, refl, sym, ap, ap₂, ◌∙◌, subst, arith, append_assoc, append-nil, slice_get}
-use Rattle.std.specs.Prelude.{ok_or, option_map}
-use Rattle.std.specs.Result.{result_map_both}
+use Rattle.std.proofs.Common.{◌≡◌, ◌≢◌, ◌≤◌, ℕ, zero, suc, ◌+◌, take, drop, Bool, List, [], ◌∷◌, ◌++◌, length, Option, Some, None, Result, Ok, Err, OnOk, IfErr, IsErrOf, refl, sym, ap, ap₂, ◌∙◌, subst, arith, append_assoc, append-nil, slice_get}
 use Rattle.std.proofs.lemmas.List.{length-map, map-append, take_all, length-append, length-take-le}
 use Rattle.vod_types.specs.declared.refusal.Refusal.{Refusal}
 use Rattle.vod_types.specs.declared.refusal.Refusal.TheVariants.{NoMemory, NoTrack, StoreFailed}
 use Rattle.vod_types.specs.declared.tracks.Asked.{Asked}
-use Rattle.vod_types.specs.declared.tracks.Kind.{Kind}
 use Rattle.vod_types.specs.declared.tracks.Kind.TheVariants.{Video, Audio}
-use Rattle.vod_types.specs.Results.{◌>>=◌, Answers, each_in_turn}
+use Rattle.vod_types.specs.Results.{◌>>=◌, each_in_turn}
 use Rattle.mp4_model.specs.Movie.{Movie}
 use Rattle.clip_model.specs.declared.Piece.{Piece}
 use Rattle.clip_model.specs.Mapping.{Mapping}
@@ -20,11 +17,11 @@ use Rattle.flat_samples.specs.Movies.{HeldMovie, AreTrue, IsTurn}
 use Rattle.flat_samples.specs.declared.tracks.CheckedTracks.{CheckedTracks}
 use Rattle.flat_samples.proofs.CheckLemmas.{checked-in, checked_in-not_failed}
 use Rattle.vod_types.proofs.StepLemmas.{bind_ok}
-use Rattle.vod_source.proofs.CallLemmas.{NotFailed, not_failed-step, refusal-not_failed}
+use Rattle.vod_source.proofs.CallLemmas.{NotFailed, refusal-not_failed}
 use Rattle.flat_lists.specs.declared.part_tracks.PartTracks.{PartTracks}
 use Rattle.flat_lists.specs.PartTracks.{PartSeen, asked_in, first_in, part_begun, part_due, part_seen, part_with}
-use Rattle.flat_lists.specs.LookedParts.{PartFound, IsFoundPart, IsPartOf, IsPartTour, checked_by, part_found, part_names, AreWithPieces, FirstStands, IsFirst, IsFirstTour, IsOfFirst, IsLaterTour, IsPieceTour, IsWithPiece, first_found, name_alone, pieces_added}
-use Rattle.flat_lists.specs.Tours.{StandsFor, IsTour, IsOnTour, names_of_steps}
+use Rattle.flat_lists.specs.LookedParts.{IsFoundPart, IsPartOf, IsPartTour, checked_by, part_found, part_names, AreWithPieces, FirstStands, IsFirst, IsFirstTour, IsOfFirst, IsLaterTour, IsPieceTour, IsWithPiece, first_found, name_alone, pieces_added}
+use Rattle.flat_lists.specs.Tours.{StandsFor, IsOnTour, names_of_steps}
 use Rattle.flat_lists.proofs.PartLemmas.{part_first, part_more}
 use Rattle.flat_lists.proofs.Tours.{names_good, names_first, toured_none, tour_failed, tour_then, tour_begins, tour_on, tour_refused, tour_ended, in_front, toured_loaded, toured_unloaded}
 
@@ -117,7 +114,6 @@ module _ (files : Files) (edits : Bool) (m : Mapping) (sequence : ℕ) (piece : 
   first_loaded x result h at t stands =
       toured_loaded files (IsFirst m sequence) (first_found files edits piece) piece.name held held_now log log_now x result t
       (subst (StandsFor (IsFirst m sequence) result) (sym (ap (λ (r : Result Movie Refusal). r >>= first_in edits piece) (in_front files piece.name x held held_now log log_now h at t))) stands)
-
 
 pub first_not_failed : {X : Type 0} (r : Result X Refusal) → IfErr r (λ e. e ≢ StoreFailed) → (failed : IsErrOf r StoreFailed) → r ≢ Err StoreFailed → ⊥
 first_not_failed r h f none = none f
@@ -237,8 +233,7 @@ module _ (files : Files) (edits : Bool) where
       let movie = bind_ok (loaded files piece.name) (first_in edits piece) f e in
       let asked = bind_ok (asked_in piece movie.0) _ f movie.2 in
       let c = bind_ok (checked_in edits asked.0 piece movie.0) _ f asked.2 in
-      let same : (asked.0, c.0) ≡ f = (let h = c.2 in cc) in
-      (
+      let same : (asked.0, c.0) ≡ f = (let h = c.2 in cc) in (
         ap (λ (r : Result Movie Refusal). r >>= asked_in piece) movie.1 ∙ asked.1 ∙ ap (λ (f : Asked × CheckedPiece). Ok f.0) same,
         ap (λ (f : Asked × CheckedPiece). checked files edits f.0 piece) (sym same) ∙ checked_loaded files edits asked.0 piece movie.0 movie.1 ∙ c.1 ∙ ap (λ (f : Asked × CheckedPiece). Ok f.1) same,
       )

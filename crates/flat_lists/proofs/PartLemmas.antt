@@ -1,5 +1,5 @@
 -- The tracks of the parts of a sequence.
-use Rattle.std.proofs.Common.{◌≡◌, ℕ, suc, ◌+◌, List, [], ◌∷◌, ◌++◌, length, map, Option, Some, None, Result, Ok, Err, OnOk, refl, sym, ap, ap₂, ◌∙◌, subst, arith, append_assoc, append-nil}
+use Rattle.std.proofs.Common.{◌≡◌, ℕ, suc, ◌+◌, List, [], ◌∷◌, ◌++◌, length, map, Option, Some, None, Result, Ok, Err, OnOk, refl, sym, ap, ap₂, ◌∙◌, arith, append_assoc, append-nil}
 use Rattle.std.specs.Prelude.{option_map}
 use Rattle.std.proofs.lemmas.List.{length-map, map-append}
 use Rattle.vod_types.specs.declared.refusal.Refusal.{Refusal}
@@ -13,8 +13,7 @@ use Rattle.origin_model.specs.Loaded.{CheckedPiece}
 use Rattle.origin_model.specs.Samples.{checked_track}
 use Rattle.origin_model.specs.Sources.{source_piece}
 use Rattle.flat_samples.specs.Rows.{rows_with}
-use Rattle.flat_lists.specs.PartTracks.{Seen, PartSeen, alone, facts_due, no_rows, part_begun, part_due, part_seen, part_with, rows_alone, seen_due, seen_of, seen_with}
-use Rattle.flat_lists.specs.declared.part_tracks.PartTrack.{PartTrack}
+use Rattle.flat_lists.specs.PartTracks.{Seen, PartSeen, alone, facts_due, no_rows, part_begun, part_due, part_seen, part_with, rows_alone, seen_of, seen_with}
 use Rattle.flat_lists.specs.declared.part_tracks.PartTracks.{PartTracks}
 
 -- ---- one more piece

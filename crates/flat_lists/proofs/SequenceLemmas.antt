@@ -1,16 +1,15 @@
 -- The sequences of a request, looked at one after another.
-use Rattle.std.proofs.Common.{◌≡◌, ◌≢◌, ◌≤◌, ◌<◌, ℕ, zero, suc, ◌+◌, Bool, List, [], ◌∷◌, ◌++◌, length, map, take, drop, pos, Option, Some, None, Result, Ok, Err, All, refl, sym, ap, ap₂, ◌∙◌, subst, arith, rules, slice_get}
+use Rattle.std.proofs.Common.{◌≡◌, ◌≢◌, ◌<◌, ℕ, zero, suc, ◌+◌, Bool, List, [], ◌∷◌, ◌++◌, length, map, take, drop, pos, Option, Some, None, Result, Ok, Err, All, refl, sym, ap, ap₂, ◌∙◌, subst, arith, rules, slice_get}
 use Rattle.std.specs.Prelude.{option_map, IfSome}
 use Rattle.std.specs.List.{range_with_len}
 use Rattle.std.specs.Result.{result_unwrap_or}
 use Rattle.std.proofs.lemmas.List.{length-append, map-append, take_all}
 use Rattle.std.proofs.lemmas.List.Elements.{All-append, All-cons, All-nil, All-head, All-tail}
-use Rattle.std.proofs.lemmas.Option.{same_Some}
 use Rattle.vod_types.specs.declared.refusal.Refusal.{Refusal}
 use Rattle.vod_types.specs.declared.refusal.Refusal.TheVariants.{NoMemory}
 use Rattle.vod_types.specs.declared.tracks.Kind.{Kind}
 use Rattle.vod_types.specs.declared.tracks.Kind.TheVariants.{Video, Audio}
-use Rattle.vod_types.specs.Results.{◌>>=◌, Answers, each_in_turn}
+use Rattle.vod_types.specs.Results.{◌>>=◌, each_in_turn}
 use Rattle.mp4_model.specs.GoodTracks.{GoodTrack}
 use Rattle.clip_model.specs.declared.Part.{Part}
 use Rattle.clip_model.specs.declared.Piece.{Piece}
@@ -30,9 +29,9 @@ use Rattle.flat_samples.specs.Movies.{HeldMovie, AreTrue}
 use Rattle.flat_lists.specs.declared.looked_sequences.LookedPart.{LookedPart}
 use Rattle.flat_lists.specs.declared.looked_sequences.LookedSequence.{LookedSequence}
 use Rattle.flat_lists.specs.declared.part_tracks.PartTracks.{PartTracks}
-use Rattle.flat_lists.specs.LookedParts.{PartFound, IsFoundPart, IsPartOf, IsPartTour, part_found, part_names}
+use Rattle.flat_lists.specs.LookedParts.{IsFoundPart, IsPartOf, IsPartTour, part_found, part_names}
 use Rattle.flat_lists.specs.LookedSequences.{FoundPart, SequenceFound, SequenceSeen, ArePartsKept, IsLookedPart, IsPartsTour, IsSeenPart, IsSeenTrack, IsSequenceTour, IsTimelineTour, found_in, looked_seen, names_in, part_kept, sequence_found, sequence_kept, sequence_names, sequence_seen}
-use Rattle.flat_lists.specs.PartTracks.{PartSeen, Seen, alone, facts_due, part_due, part_seen, rows_alone, ArePlaced}
+use Rattle.flat_lists.specs.PartTracks.{PartSeen, alone, facts_due, part_due, part_seen, rows_alone, ArePlaced}
 use Rattle.flat_lists.specs.Tours.{IsTour, names_of_steps}
 use Rattle.flat_lists.proofs.Tours.{tour_err, tour_ok, tour_unread}
 
@@ -137,8 +136,10 @@ module _ (o : Setup) (a : Asking) (sequence : ℕ) (held held_now : List HeldMov
   pub sequence_refused : (e : Refusal) → (e ≢ NoMemory → timeline_asked o a sequence ≡ Err e) → AreTrue o.files held → IsSequenceTour o a sequence (Err e) held held log log
   sequence_refused e refused known =
       tour_unread o.files IsKeptSequence (sequence_found o a sequence) (sequence_names o a sequence) e held log known
-      (λ known_memory. (ap (λ (r : Result Timeline Refusal). r >>= λ t. each_in_turn (found_in o.files (honours_edits o) t) t.parts >>= λ fs. Ok (record { number = sequence; timeline = t; parts = fs })) (refused known_memory),
-      ap (λ (r : Result Timeline Refusal). result_unwrap_or (r >>= λ t. Ok (names_of_steps (found_in o.files (honours_edits o) t) (names_in o.files (honours_edits o) t) t.parts)) []) (refused known_memory)))
+      (λ known_memory. (
+        ap (λ (r : Result Timeline Refusal). r >>= λ t. each_in_turn (found_in o.files (honours_edits o) t) t.parts >>= λ fs. Ok (record { number = sequence; timeline = t; parts = fs })) (refused known_memory),
+        ap (λ (r : Result Timeline Refusal). result_unwrap_or (r >>= λ t. Ok (names_of_steps (found_in o.files (honours_edits o) t) (names_in o.files (honours_edits o) t) t.parts)) []) (refused known_memory),
+      ))
 
   pub sequence_found_by : (result : Result LookedSequence Refusal) (edits : Bool) (t : Timeline) → edits ≡ honours_edits o → timeline_asked o a sequence ≡ Ok t → IsTimelineTour o.files edits a.mapping sequence t result held held_now log log_now
       → IsSequenceTour o a sequence result held held_now log log_now

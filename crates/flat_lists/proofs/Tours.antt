@@ -4,11 +4,10 @@ use Rattle.std.specs.Prelude.{flat_map, is_err}
 use Rattle.std.specs.List.{position_or_len}
 use Rattle.std.proofs.lemmas.Option.{same_Some}
 use Rattle.vod_types.specs.declared.refusal.Refusal.{Refusal}
-use Rattle.vod_types.specs.declared.refusal.Refusal.TheVariants.{NoMemory, StoreFailed}
+use Rattle.vod_types.specs.declared.refusal.Refusal.TheVariants.{NoMemory}
 use Rattle.vod_types.specs.Lists.{through_first}
 use Rattle.vod_types.specs.Results.{◌>>=◌, each_in_turn}
 use Rattle.mp4_model.specs.Movie.{Movie}
-use Rattle.vod_source.specs.Calls.{LogsReads}
 use Rattle.vod_source.specs.Stored.{Files, Read}
 use Rattle.vod_source.specs.Told.{told_with}
 use Rattle.vod_source.proofs.CallLemmas.{LogsErr, logs_all, logs_then, logs_ended}
@@ -18,7 +17,7 @@ use Rattle.origin_model.specs.Loaded.{loaded}
 use Rattle.origin_model.specs.Reads.{Cache, turn, turns}
 use Rattle.flat_samples.specs.Movies.{HeldMovie, AreTrue, IsTurn, names_held}
 use Rattle.flat_samples.proofs.CheckLemmas.{not_loaded}
-use Rattle.flat_lists.specs.Tours.{StandsFor, HeldAfter, IsTour, IsWholeTour, IsOnTour, names_of_steps}
+use Rattle.flat_lists.specs.Tours.{StandsFor, IsTour, IsWholeTour, IsOnTour, names_of_steps}
 
 -- ---- lists through an element
 
@@ -194,8 +193,8 @@ module _ (files : Files) where
         answered = λ known_memory known_store. absurd (known_memory is);
         names_now = tt;
         logged = (
-            record { front = t.made; back = (turns files (names_held held) (names left)).reads; split = t.reads; grew = t.logged },
-            λ known_memory known_store. absurd (known_memory is),
+          record { front = t.made; back = (turns files (names_held held) (names left)).reads; split = t.reads; grew = t.logged },
+          λ known_memory known_store. absurd (known_memory is),
         );
       }
 

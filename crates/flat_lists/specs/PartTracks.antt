@@ -1,5 +1,5 @@
 -- The tracks of the parts of a sequence, each asked alone; this project's own.
-use Rattle.std.specs.Prelude.{◌≡◌, ℕ, List, [], ◌∷◌, map, sum, Option, Some, None, option_map, option_and_then, IfSome, Bool, Result, Ok}
+use Rattle.std.specs.Prelude.{ℕ, List, [], ◌∷◌, map, sum, Option, Some, None, option_map, option_and_then, IfSome, Bool, Result, Ok}
 use Rattle.vod_types.specs.declared.refusal.Refusal.{Refusal}
 use Rattle.vod_types.specs.declared.tracks.Asked.{Asked}
 use Rattle.vod_types.specs.declared.tracks.Kind.{Kind}

@@ -57,11 +57,18 @@ pub(crate) fn look_at_sequences<S: Store>(
     let mut looked = Vec::new(alloc);
     for place in 0..asking.mapping.sequences() {
         let number = place + 1;
-        let sequence =
-            match look_at_sequence(alloc, files, &mut movies, settings, root, asking, number) {
-                Ok(sequence) => sequence,
-                Err(refusal) => return Err(refusal),
-            };
+        let sequence = match look_at_sequence(
+            alloc,
+            files,
+            &mut movies,
+            settings,
+            root,
+            asking,
+            number,
+        ) {
+            Ok(sequence) => sequence,
+            Err(refusal) => return Err(refusal),
+        };
         match looked.push(sequence) {
             Ok(()) => {}
             Err(_) => return Err(Refusal::NoMemory),

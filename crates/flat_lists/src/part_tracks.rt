@@ -253,7 +253,11 @@ pub(crate) fn asked_of(alloc: Global, piece: &Piece, movie: &Movie) -> Result<As
 fn first_number(piece: &Piece, movie: &Movie, kind: Kind) -> Option<u8>
     ensures { result ≡ first_track piece.now movie.now.movie kind }
 {
-    match exposed(movie, piece.tracks.as_slice(), TrackName { kind, number: 1 }) {
+    match exposed(
+        movie,
+        piece.tracks.as_slice(),
+        TrackName { kind, number: 1 },
+    ) {
         Some(_) => Some(1),
         None => None,
     }

@@ -1,8 +1,7 @@
-use Rattle.std.proofs.Common.{◌≡◌, ℕ, ◌*◌, ◌<◌, length, take, sum, sum_by, ap, sym, ◌∙◌, arith}
+use Rattle.std.proofs.Common.{ℕ, ◌*◌, ◌<◌, length, sum_by, ap, sym, ◌∙◌, arith}
 use Rattle.std.proofs.lemmas.List.{take_all}
-use Rattle.mp4_model.specs.Samples.{sample_deltas}
 use Rattle.mp4_model.proofs.RunsLemmas.{sum-written_out}
-use Rattle.mp4_tables.specs.Views.{stts_entries, tables_of}
+use Rattle.mp4_tables.specs.Views.{stts_entries}
 use Rattle.flat_lists.proofs.BandwidthLemmas.{sum_by_entry, sum_of_deltas}
 use Rattle.flat_lists.proofs.bandwidths.time_of.Goals as goal
 

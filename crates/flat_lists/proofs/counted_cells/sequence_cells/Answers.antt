@@ -1,4 +1,4 @@
-use Rattle.std.proofs.Common.{◌<◌, ◌≡◌, List, get_or, length, ap, ◌∙◌, arith}
+use Rattle.std.proofs.Common.{◌<◌, List, get_or, length, ap, ◌∙◌, arith}
 use Rattle.flat_lists.specs.Counted.{part_cells}
 use Rattle.flat_lists.specs.LookedSequences.{IsLookedPart, looked_seen}
 use Rattle.flat_lists.proofs.CountLemmas.{at_item, sum_on}

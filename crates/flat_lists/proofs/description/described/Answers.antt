@@ -1,4 +1,4 @@
-use Rattle.std.proofs.Common.{◌≡◌, ◌≤◌, ℕ, sym, ap, ◌∙◌, subst}
+use Rattle.std.proofs.Common.{◌≤◌, ℕ, sym, ap, ◌∙◌, subst}
 use Rattle.vod_types.specs.Settled.{Settled}
 use Rattle.segment_model.specs.Grid.{SegmentGrid, grid_of}
 use Rattle.flat_lists.specs.Asked.{asking_view}

@@ -1,4 +1,4 @@
-use Rattle.std.proofs.Common.{◌≡◌, ◌≤◌, ◌+◌, ◌<◌, List, length, sym, ap, ◌∙◌, arith, refl}
+use Rattle.std.proofs.Common.{◌≤◌, ◌<◌, length, ◌∙◌, arith, refl}
 use Rattle.std.proofs.lemmas.List.{drop_all}
 use Rattle.seq_timeline.proofs.PieceLemmas.{drop_item}
 use Rattle.vod_source.proofs.CallLemmas.{told_all, told_with_all, told_with_other}
