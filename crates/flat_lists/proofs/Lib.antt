@@ -10,6 +10,7 @@ pub mod FoundLemmas
 pub mod DescriptionLemmas
 pub mod CountLemmas
 pub mod CellsFound
+pub mod TrackRowLemmas
 pub mod AloneLemmas
 pub mod BandwidthLemmas
 pub mod CodecLemmas

@@ -15,6 +15,7 @@ mod looked_parts;
 mod looked_sequences;
 mod master;
 mod part_tracks;
+mod track_rows;
 
 pub use asking::{Asking, asking_of};
 pub use description::presentation_description;
