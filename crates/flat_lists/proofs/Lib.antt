@@ -11,3 +11,13 @@ pub mod MasterLemmas
 pub mod CountedIframes
 pub mod IframeMarks
 pub mod MarkedRows
+pub mod Tours
+pub mod PartLemmas
+pub mod LookedLemmas
+pub mod SequenceLemmas
+pub mod FoundLemmas
+pub mod DescriptionLemmas
+pub mod CountLemmas
+pub mod CellsFound
+pub mod TrackRowLemmas
+pub mod AloneLemmas

@@ -6,4 +6,9 @@ pub mod Listings
 pub mod Steps
 pub mod Shown
 pub mod Marks
+pub mod Tours
+pub mod PartTracks
+pub mod LookedParts
+pub mod LookedSequences
+pub mod Described
 pub mod Counted

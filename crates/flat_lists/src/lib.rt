@@ -5,6 +5,7 @@
 mod asking;
 mod bandwidths;
 mod codecs;
+mod counted_cells;
 mod description;
 mod first_asked;
 mod iframe_marks;
@@ -12,9 +13,13 @@ mod iframes;
 mod listed_part;
 mod listed_parts;
 mod listed_timeline;
+mod looked_parts;
+mod looked_sequences;
 mod marked_rows;
 mod master;
+mod part_tracks;
 mod shown;
+mod track_rows;
 mod variants;
 
 pub use asking::{Asking, asking_of};

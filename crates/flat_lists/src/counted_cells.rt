@@ -1,0 +1,90 @@
+//! The cells of all parts of all sequences.
+
+ghost use Rattle.std.specs.Prelude.{◌≡◌, ◌≤◌, ◌*◌, ◌^◌, All, IfSome, length, map, option_map};
+ghost use Rattle.clip_model.specs.IsTimeline.{IsPart};
+ghost use Rattle.segment_model.specs.Grid.{cells as cells_of_ms};
+ghost use Rattle.flat_lists.specs.CountedCells.{all_cells as all_cells_of, length_seen, part_cells as part_cells_of, sequence_cells as sequence_cells_of, track_cells as track_cells_of};
+ghost use Rattle.flat_lists.specs.LookedSequences.{looked_seen, IsLookedPart, IsLookedSequence};
+ghost use Rattle.flat_lists.specs.PartTracks.{seen_of, IsPlacedTrack};
+ghost use Rattle.flat_samples.specs.Rows.{timed_view, IsPlacedRow};
+
+use crate::looked_sequences::{LookedPart, LookedSequence};
+use crate::part_tracks::PartTrack;
+use clip_model::Part;
+use flat_samples::TimedSample;
+use flat_segments::length_of;
+use segmenter::{Grid, cells};
+
+/// How many cells all representations of at most 32 sequences have together.
+pub(crate) fn all_cells(grid: &Grid, sequences: &[LookedSequence]) -> u64
+    requires each { All IsLookedSequence sequences.now }
+    requires few { length sequences.now ≤ 32 }
+    ensures { result ≡ all_cells_of grid.now sequences.now }
+{
+    let mut all = 0;
+    for sequence in sequences {
+        all += sequence_cells(grid, sequence);
+    }
+    all
+}
+
+fn sequence_cells(grid: &Grid, sequence: &LookedSequence) -> u64
+    requires { IsLookedSequence sequence.now }
+    ensures cells { result ≡ sequence_cells_of grid.now sequence.now }
+    ensures bound { result ≤ 2 ^ 50 }
+{
+    let mut all = 0;
+    for part in &sequence.parts {
+        all += part_cells(grid, part);
+    }
+    all
+}
+
+// Those of the tracks of a part, which counts once where it has none.
+fn part_cells(grid: &Grid, looked: &LookedPart) -> u64
+    requires { IsLookedPart looked.now }
+    ensures cells { result ≡ part_cells_of grid.now (looked_seen looked.now) }
+    ensures bound { result ≤ 2 ^ 43 }
+{
+    let once = length_cells(grid, &looked.part, &[]);
+    let video = track_cells(grid, &looked.part, &looked.tracks.video);
+    let audio = track_cells(grid, &looked.part, &looked.tracks.audio);
+    match video {
+        Some(video) => video + audio.unwrap_or(0),
+        None => audio.unwrap_or(once),
+    }
+}
+
+fn track_cells(grid: &Grid, part: &Part, track: &Option<PartTrack>) -> Option<u64>
+    requires part { IsPart part.now }
+    requires placed { IsPlacedTrack track.now }
+    ensures cells { result ≡ option_map (track_cells_of grid.now part.now) (option_map seen_of track.now) }
+    ensures bound { IfSome result (λ n. n ≤ 2 ^ 42) }
+{
+    match track {
+        Some(track) => Some(length_cells(grid, part, &track.rows.lead)),
+        None => None,
+    }
+}
+
+// The cells of a part with such lead rows.
+fn length_cells(grid: &Grid, part: &Part, lead: &[TimedSample]) -> u64
+    requires part { IsPart part.now }
+    requires placed { All IsPlacedRow (map timed_view lead.now) }
+    ensures cells { result ≡ cells_of_ms grid.now (length_seen part.now (map timed_view lead.now)) }
+    ensures bound { result ≤ 2 ^ 42 }
+{
+    cells(grid, track_length(part, lead))
+}
+
+/// The length of a track of a part in milliseconds, whose lead rows are these.
+pub(crate) fn track_length(part: &Part, lead: &[TimedSample]) -> u64
+    requires part { IsPart part.now }
+    requires placed { All IsPlacedRow (map timed_view lead.now) }
+    ensures { result ≡ length_seen part.now (map timed_view lead.now) }
+{
+    match part.length_ms {
+        Some(length) => length,
+        None => length_of(part.start, lead),
+    }
+}
