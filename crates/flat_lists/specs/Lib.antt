@@ -12,3 +12,4 @@ pub mod LookedParts
 pub mod LookedSequences
 pub mod Described
 pub mod Counted
+pub mod CountedCells

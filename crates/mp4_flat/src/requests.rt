@@ -24,8 +24,8 @@ use vod_urls::read_path;
 /// Answers a path with the settings `settings`, over the files below `root`.
 ///
 /// It is refused by the first cause in the order of refusals; a path of the grammar whose form isn't built yet, that of a
-/// clip, is refused as `Unsupported`, name `form`, before any call on the store. A failure of the store is `StoreFailed`,
-/// want of memory `NoMemory`.
+/// clip or of a media presentation description, is refused as `Unsupported`, name `form`, before any call on the store. A
+/// failure of the store is `StoreFailed`, want of memory `NoMemory`.
 pub fn answer<S: Store>(
     alloc: Global,
     files: &mut S,
@@ -75,13 +75,12 @@ fn is_built_leaf(leaf: Leaf) -> bool
 {
     match leaf {
         Leaf::Master
-        | Leaf::Mpd
         | Leaf::Index { .. }
         | Leaf::Init { .. }
         | Leaf::Segment { .. }
         | Leaf::Iframes { .. }
         | Leaf::Iframe { .. } => true,
-        Leaf::Clip { .. } => false,
+        Leaf::Mpd | Leaf::Clip { .. } => false,
     }
 }
 
