@@ -99,6 +99,11 @@ const PLAYLIST: &[u8; 145] = b"\
     #EXTINF:10.010,\nseg-1-f1-v1.ts\n#EXT-X-ENDLIST\n\
     ";
 
+// The master playlist of the film of `TWO_SAMPLES`: 30 bytes in 2048 ticks of 48000 are 5,625 bits a second.
+const MASTER: &[u8; 77] = b"\
+    #EXTM3U\n#EXT-X-STREAM-INF:BANDWIDTH=5625,CODECS=\"mp4a.40.2\"\nindex-f1-a1.m3u8\n\
+    ";
+
 // What stands behind a place, or nothing.
 fn behind(bytes: &[u8], at: usize) -> &[u8] {
     if at <= bytes.len() { &bytes[at..] } else { &[] }
@@ -334,13 +339,13 @@ long.json /mapped/dash/five.json/fragment-5-v1.m4s | refused 40 NoSegment
 - /local/hls/a.mp4/seg-1-f1-v1.m4s | 1; 1 0 0 250 0 249
 - /mapped/hls/m.json/init-c1-f1-v1.mp4 | init 622
 - /local/hls/one.mp4/seg-1-f1-a1.ts | stream 564
+# I-frames: a segment of 10 seconds has 10 of them.
+- /local/hls/a.mp4/iframe-1-11-f1-v1.ts | refused 47 NoIframe
+- /local/hls/a.mp4/iframe-3-1-f1-v1.ts | refused 40 NoSegment
+- /local/hls/two.mp4/iframes-f1-v1.m3u8 | refused 25 NoTrack
 # Forms that aren't built.
-- /local/hls/a.mp4/master.m3u8 | refused 14 Unsupported
 - /local/dash/a.mp4/manifest.mpd | refused 14 Unsupported
-- /local/hls/a.mp4/iframes-f1-v1.m3u8 | refused 14 Unsupported
-- /local/hls/a.mp4/iframe-1-1-f1-v1.ts | refused 14 Unsupported
-- /local/dash/a.mp4/clip-f1-v1.mp4 | refused 14 Unsupported
-long.json /local/hls/a.mp4/master.m3u8 | refused 14 Unsupported
+long.json /local/dash/a.mp4/clip-f1-v1.mp4 | refused 14 Unsupported
 # Names that aren't spelled as they are printed, and settings that are empty or aren't there.
 - /local/hls/a.mp4/seg-01-f1-a1.ts | refused 4 BadPath
 - /local/hls/a.mp4/index-f1-a1-v1.m3u8 | refused 4 BadPath
@@ -411,11 +416,12 @@ type Damage = (&'static [u8; 4], usize, &'static [u8], &'static str);
 #[test]
 fn bodies_are_those_of_the_standard(rt: HostRuntime) -> Result<(), Fail> {
     let alloc = rt.alloc();
-    let rows: [(&str, &[u8]); 8] = [
+    let rows: [(&str, &[u8]); 9] = [
         ("- /local/dash/two.mp4/init-c1-f1-a1.mp4", INIT_SEGMENT),
         ("- /local/dash/two.mp4/fragment-1-a1.m4s", TWO_SAMPLES),
         ("- /local/dash/order.mp4/fragment-1-v1-a1.m4s", OUT_OF_ORDER),
         ("- /local/hls/ntsc.mp4/index-f1-v1.m3u8", PLAYLIST),
+        ("- /local/hls/two.mp4/master.m3u8", MASTER),
         ("- /local/dash/skip.mp4/fragment-1-a1.m4s", SECOND_SAMPLE),
         ("- /local/dash/late.mp4/fragment-1-v1.m4s", SHOWN_AT_ONCE),
         (
@@ -590,7 +596,11 @@ fn failing_calls_end_the_run_before_a_byte(rt: HostRuntime) -> Result<(), Fail> 
     }
     // A form that isn't built asks for the settings alone.
     let store = store_of(alloc, "/r/f.mp4", Vec::new(alloc), vec![in alloc; 3]?)?;
-    let it = ran(alloc, "get /r s.json /local/hls/f.mp4/master.m3u8", store)?;
+    let it = ran(
+        alloc,
+        "get /r s.json /local/hls/f.mp4/clip-f1-a1.mp4",
+        store,
+    )?;
     assert_eq!(rt; it.line.as_slice(), b"refused 14 Unsupported\n".as_slice());
     Ok(())
 }
