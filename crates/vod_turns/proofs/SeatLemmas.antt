@@ -1,11 +1,11 @@
 -- Sessions in seats: what one turn of one of them does.
-use Rattle.std.proofs.Common.{◌≡◌, ◌≢◌, ℕ, zero, suc, ◌+◌, ◌-◌, ◌*◌, ◌^◌, ◌<◌, ◌≤◌, ◌⊎◌, min, Bool, true, false, IsTrue, List, [], ◌∷◌, ◌++◌, length, take, set, get_or, replicate, Option, Some, None, refl, sym, ap, ◌∙◌, subst, inl, inr, arith, append_assoc, length-set, get_or-set_same, get_or-set_other, eq-eqb}
-use Rattle.std.specs.Prelude.{◌==◌, sum, slice_get, slice_index}
+use Rattle.std.proofs.Common.{◌≡◌, ◌≢◌, ℕ, zero, suc, ◌+◌, ◌-◌, ◌^◌, ◌<◌, ◌≤◌, ◌⊎◌, Bool, false, IsTrue, List, [], ◌∷◌, ◌++◌, length, take, set, get_or, replicate, Option, Some, None, refl, sym, ap, ◌∙◌, subst, inl, inr, arith, append_assoc, length-set, get_or-set_same, get_or-set_other, eq-eqb}
+use Rattle.std.specs.Prelude.{◌==◌, sum, slice_get}
 use Rattle.std.proofs.lemmas.List.{append-nil, length-replicate, get_or-replicate}
 use Rattle.std.proofs.lemmas.List.Folds.{sum_by-replicate}
 use Rattle.std.proofs.lemmas.Bool.Decides.{nat_tests}
 use Rattle.std.proofs.lemmas.List.Sums.{sum_by-set, count_by_more_yes, count_by_more_no}
-use Rattle.std.proofs.lemmas.Option.{slice_get_within, get_or_from_slice_get, slice_get-get_or}
+use Rattle.std.proofs.lemmas.Option.{slice_get_within}
 use Rattle.vod_types.specs.declared.paths.ByteRange.{ByteRange}
 use Rattle.list_model.specs.declared.Why.TheVariants as why
 use Rattle.list_model.specs.Exchange.{IsServed}
@@ -13,9 +13,8 @@ use Rattle.list_model.specs.Reply.{Answer}
 use Rattle.vod_source.specs.Causes.{Rose}
 use Rattle.vod_http.specs.Answered.{Rest}
 use Rattle.vod_session.specs.declared.state.LinkEnd.{LinkEnd}
-use Rattle.vod_session.specs.declared.state.Turn as step
 use Rattle.vod_session.specs.declared.state.Turn.TheVariants.{Again, Ended}
-use Rattle.vod_session.specs.Calls.{AreAnswers, EndsBy, IsToldStep}
+use Rattle.vod_session.specs.Calls.{AreAnswers, IsToldStep}
 use Rattle.vod_session.specs.Sessions.{SessionValue, SendsOnly, fresh, is_under_way}
 use Rattle.vod_session.specs.Steps.{Answers}
 use Rattle.vod_session.specs.Histories.{IsFront, IsMet}
@@ -24,7 +23,7 @@ use Rattle.vod_turns.specs.declared.seats.Seat.{Seat}
 use Rattle.vod_turns.specs.Histories.{IsAtTurn}
 use Rattle.vod_turns.specs.Seats.{AreFresh, AreReady, AreSeated, HasDone, IsNext, IsReady, IsSeated, risen}
 use Rattle.vod_turns.specs.Turns.{times}
-use Rattle.vod_turns.proofs.TurnLemmas.{at_start, at_next, at_end, at_front}
+use Rattle.vod_turns.proofs.TurnLemmas.{at_start, at_next, at_end}
 
 -- ---- more turns and more failures allowed
 

@@ -1,4 +1,4 @@
-use Rattle.std.proofs.Common.{rules, ◌≡◌, List, refl, sym, subst, arith, length}
+use Rattle.std.proofs.Common.{rules, List, refl, sym, subst, arith}
 use Rattle.vod_turns.specs.declared.seats.Seat.{Seat}
 use Rattle.vod_turns.specs.Seats.{AreFresh}
 use Rattle.vod_turns.specs.Turns.{times}

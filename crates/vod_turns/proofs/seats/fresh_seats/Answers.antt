@@ -1,4 +1,4 @@
-use Rattle.std.proofs.Common.{rules, sym, subst, List, ◌++◌, ◌∷◌, []}
+use Rattle.std.proofs.Common.{rules, sym, subst, List}
 use Rattle.vod_turns.specs.Seats.{AreFresh}
 use Rattle.vod_turns.specs.declared.seats.Seat.{Seat}
 use Rattle.vod_turns.proofs.SeatLemmas.{fresh_push}

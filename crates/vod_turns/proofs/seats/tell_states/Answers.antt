@@ -1,9 +1,7 @@
-use Rattle.std.proofs.Common.{Some, sym, ap, ◌∙◌, inl, inr, arith, length, ◌<◌, ◌≡◌, subst, get_or, ℕ}
+use Rattle.std.proofs.Common.{Some, ap, ◌∙◌, inl, inr, arith, ◌≡◌, subst, get_or, ℕ}
 use Rattle.std.specs.Prelude.{slice_get}
 use Rattle.std.proofs.lemmas.Option.{slice_get_within, get_or_from_slice_get}
 use Rattle.vod_turns.specs.declared.seats.Seat.{Seat}
-use Rattle.vod_turns.specs.declared.link_state.LinkState.{LinkState}
-use Rattle.vod_turns.specs.Seats.{state_of}
 use Rattle.vod_turns.proofs.SeatLemmas.{get_set}
 use Rattle.vod_turns.proofs.seats.tell_states.Goals as goal
 

@@ -1,4 +1,4 @@
-use Rattle.std.proofs.Common.{List, sym, subst, arith, length, ◌≡◌}
+use Rattle.std.proofs.Common.{List, sym, subst, arith}
 use Rattle.vod_turns.specs.declared.link_state.LinkState.{LinkState}
 use Rattle.vod_turns.specs.Seats.{AreStates}
 use Rattle.vod_turns.proofs.SeatEnds.{whole_new}

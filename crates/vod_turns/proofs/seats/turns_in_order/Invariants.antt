@@ -1,4 +1,4 @@
-use Rattle.std.proofs.Common.{◌≡◌, ◌≤◌, ◌<◌, ◌^◌, length, take}
+use Rattle.std.proofs.Common.{◌≡◌, ◌≤◌, take}
 use Rattle.vod_turns.specs.Seats.{AreReady, AreSeated}
 use Rattle.vod_turns.specs.Turns.{times}
 use Rattle.vod_turns.proofs.seats.turns_in_order.Given as goal
