@@ -66,7 +66,7 @@ const OUT_OF_ORDER: &[u8; 287] = b"\
     \x00\x00\x00\x34trun\x01\x00\x0f\x01\x00\x00\x00\x02\x00\x00\x01\x02\
     \x00\x00\x07\x80\x00\x00\x00\x02\x02\x00\x00\x00\x00\x00\x00\x00\
     \x00\x00\x07\x80\x00\x00\x00\x03\x02\x00\x00\x00\x00\x00\x00\x00\
-    \x00\x00\x00\x1fmdatIIIIIPPPPPPBBBBBBBaabbb\
+    \x00\x00\x00\x1fmdat\x00\x00\x00\x01e\x00\x00\x00\x02AP\x00\x00\x00\x03ABBaabbb\
     ";
 
 // The fragment of two samples at 48000 of which the first isn't shown: the second has 20 bytes, and begins at 0.
@@ -90,7 +90,7 @@ const SHOWN_AT_ONCE: &[u8; 186] = b"\
     \x00\x00\x0e\x10\x00\x00\x00\x05\x02\x00\x00\x00\x00\x00\x00\x00\
     \x00\x00\x0e\x10\x00\x00\x00\x06\x01\x01\x00\x00\x00\x00\x00\x00\
     \x00\x00\x0e\x10\x00\x00\x00\x07\x01\x01\x00\x00\x00\x00\x00\x00\
-    \x00\x00\x00\x1amdatIIIIIPPPPPPBBBBBBB\
+    \x00\x00\x00\x1amdat\x00\x00\x00\x01e\x00\x00\x00\x02AP\x00\x00\x00\x03ABB\
     ";
 
 // The playlist of 300 pictures of 3003 units, which last 10.01 seconds.
@@ -339,6 +339,9 @@ long.json /mapped/dash/five.json/fragment-5-v1.m4s | refused 40 NoSegment
 - /local/hls/a.mp4/seg-1-f1-v1.m4s | 1; 1 0 0 250 0 249
 - /mapped/hls/m.json/init-c1-f1-v1.mp4 | init 622
 - /local/hls/one.mp4/seg-1-f1-a1.ts | stream 564
+# Five seconds of AVC and five of HEVC in one segment, which a stream can't hold and a fragment can.
+- /mapped/hls/mixed.json/seg-1-v1.ts | refused 32 MixedCodecs
+- /mapped/dash/mixed.json/fragment-1-v1.m4s | 1; 1 0 0 250 0 10124
 # I-frames: a segment of 10 seconds has 10 of them.
 - /local/hls/a.mp4/iframe-1-11-f1-v1.ts | refused 47 NoIframe
 - /local/hls/a.mp4/iframe-3-1-f1-v1.ts | refused 40 NoSegment
@@ -441,6 +444,13 @@ fn bodies_are_those_of_the_standard(rt: HostRuntime) -> Result<(), Fail> {
         assert!(rt; it.status == 0 && it.line.is_empty(), "at {asked}");
         store = it.store;
     }
+    // The stream of the pictures of `SHOWN_AT_ONCE`: the clock begins two ticks before 0, and the first picture is shown at 90000
+    // and decoded two ticks before.
+    let it = ran(alloc, "get /r - /local/hls/late.mp4/seg-1-v1.ts", store)?;
+    let begins = box_at(&it.body, b"\x00\x00\x01\xe0").ok_or("no picture")?;
+    let times = behind(&it.body, begins.saturating_add(13));
+    assert!(rt; behind(&it.body, 382).starts_with(b"\xff\xff\xf1\xf0\x7e\x00"));
+    assert!(rt; times.starts_with(b"\x31\x00\x05\xbf\x21\x11\x00\x05\x86\xe1"));
     Ok(())
 }
 

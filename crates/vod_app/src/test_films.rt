@@ -120,9 +120,9 @@ pub(crate) fn two_samples(alloc: Global) -> Result<Vec<u8>, Fail> {
 // A track of three pictures with these offsets, of which the first alone is a sync sample.
 fn pictures(alloc: Global, offsets: Vec<(u32, i32)>) -> Result<TrackSpec, Fail> {
     let samples = vec![in alloc;
-        b"IIIII".to_vec(alloc)?,
-        b"PPPPPP".to_vec(alloc)?,
-        b"BBBBBBB".to_vec(alloc)?,
+        b"\0\0\0\x01e".to_vec(alloc)?,
+        b"\0\0\0\x02AP".to_vec(alloc)?,
+        b"\0\0\0\x03ABB".to_vec(alloc)?,
     ]?;
     Ok(TrackSpec {
         kind: Kind::Video,
@@ -143,6 +143,23 @@ pub(crate) fn out_of_order(alloc: Global) -> Result<Vec<u8>, Fail> {
     film(alloc, vec![in alloc; video, sound(alloc, &samples)?]?)
 }
 
+// The sample entry of HEVC pictures: general profile 1, level 93, and one set of each kind.
+const HEVC_ENTRY: &[u8; 141] = b"\
+    \x00\x00\x00\x8dhvc1\x00\x00\x00\x00\x00\x00\x00\x01\x00\x00\x00\x00\x00\x00\x00\x00\x00\x00\x00\x00\x00\x00\x00\x00\
+    \x02\x80\x01\x68\x00\x48\x00\x00\x00\x48\x00\x00\x00\x00\x00\x00\x00\x01\
+    \x00\x00\x00\x00\x00\x00\x00\x00\x00\x00\x00\x00\x00\x00\x00\x00\x00\x00\x00\x00\x00\x00\x00\x00\x00\x00\x00\x00\x00\x00\x00\x00\
+    \x00\x18\xff\xff\
+    \x00\x00\x00\x37hvcC\x01\x01\x60\x00\x00\x00\xb0\x00\x00\x00\x00\x00\x5d\xf0\x00\xfc\xfd\xf8\xf8\x00\x00\x0f\
+    \x03\xa0\x00\x01\x00\x03\x40\x01\x0c\xa1\x00\x01\x00\x03\x42\x01\x01\xa2\x00\x01\x00\x03\x44\x01\xc1\
+    ";
+
+// A film of 5 seconds of HEVC, whose pictures are numbered from 10000 on.
+fn hevc_film(alloc: Global) -> Result<Vec<u8>, Fail> {
+    let mut video = track(alloc, Kind::Video, avc(125, 10000, 50))?;
+    video.entry = HEVC_ENTRY.to_vec(alloc)?;
+    film(alloc, vec![in alloc; video]?)
+}
+
 // A film of one sample of audio, of 100 bytes.
 fn one_sample(alloc: Global) -> Result<Vec<u8>, Fail> {
     let samples: [&[u8]; 1] = [&[7; 100]];
@@ -158,7 +175,7 @@ fn three_tracks(alloc: Global) -> Result<Vec<u8>, Fail> {
 }
 
 // The texts that the requests name: settings, and mappings below `/r`.
-const TEXTS: [(&str, &str); 24] = [
+const TEXTS: [(&str, &str); 25] = [
     ("blank.json", ""),
     ("ignore.json", r#"{"ignore_edits":true}"#),
     ("align.json", r#"{"align":true}"#),
@@ -191,6 +208,10 @@ const TEXTS: [(&str, &str); 24] = [
     (
         "/r/concat.json",
         r#"{"sequences":[{"clips":[{"type":"concat","paths":["c.mp4","d.mp4"],"durations":[5000,5000],"offset":-1000}]}]}"#,
+    ),
+    (
+        "/r/mixed.json",
+        r#"{"sequences":[{"clips":[{"type":"concat","paths":["c.mp4","hevc.mp4"],"durations":[5000,5000]}]}]}"#,
     ),
     (
         "/r/from.json",
@@ -289,6 +310,7 @@ pub(crate) fn films(alloc: Global) -> Result<MemStore, Fail> {
         add(alloc, &mut files, name, film_of(alloc, kind, shape)?)?;
     }
     add(alloc, &mut files, "/r/av.mp4", three_tracks(alloc)?)?;
+    add(alloc, &mut files, "/r/hevc.mp4", hevc_film(alloc)?)?;
     add(alloc, &mut files, "/r/one.mp4", one_sample(alloc)?)?;
     add(alloc, &mut files, "/r/two.mp4", two_samples(alloc)?)?;
     add(alloc, &mut files, "/r/order.mp4", out_of_order(alloc)?)?;
