@@ -2,9 +2,12 @@
 //! written. It is the definition's plain program, short and slow; what it reads of the files is what the definition allows.
 #![tactic(auto)]
 
+mod answers;
+mod entries;
 mod init;
 mod listing;
 mod lists;
+mod packaging;
 mod playlist;
 mod requests;
 mod segments;
