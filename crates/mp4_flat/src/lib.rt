@@ -8,6 +8,7 @@ mod init;
 mod listing;
 mod lists;
 mod packaging;
+mod packed_names;
 mod playlist;
 mod requests;
 mod segments;

@@ -1,14 +1,12 @@
 //! A packaging: the names of lists with what they are answered with, one after another.
 
 ghost use Rattle.std.specs.Prelude.{◌≡◌, ◌≢◌, ◌≤◌, ◌∷◌, [], true, false, All, IfSome};
-ghost use Rattle.list_model.specs.Names.{IsLeafOf};
 ghost use Rattle.list_model.specs.Pack.{is_list as is_list_of, pack};
 ghost use Rattle.vod_types.specs.declared.refusal.Refusal.TheVariants.{NoMemory, StoreFailed};
 ghost use Rattle.vod_source.specs.Causes.{Rose};
 ghost use Rattle.origin_model.specs.Answers.{leaf_answer as leaf_answer_of};
 ghost use Rattle.flat_lists.specs.Asked.{asking_view, setup_of};
 ghost use Rattle.mp4_flat.specs.declared.entries.PackEnd.TheVariants as ends;
-ghost use Rattle.mp4_flat.specs.Built.{is_built_leaf};
 ghost use Rattle.mp4_flat.specs.Packed.{IsName, IsPackedAs};
 
 use crate::answers::leaf_answer;

@@ -1,9 +1,9 @@
 //! What a path is answered with.
 
-ghost use Rattle.std.specs.Prelude.{◌≡◌, ◌≢◌, ◌≤◌, true, IfSome, IsErr, IsErrOf, codes, length};
+ghost use Rattle.std.specs.Prelude.{◌≡◌, ◌≤◌, true, IfSome, IsErr, IsErrOf, length};
 ghost use Rattle.std.specs.Int.{IsInRange};
 ghost use Rattle.vod_source.specs.Causes.{Rose};
-ghost use Rattle.vod_types.specs.declared.refusal.Refusal.TheVariants.{NoMemory, StoreFailed, Unsupported};
+ghost use Rattle.vod_types.specs.declared.refusal.Refusal.TheVariants.{StoreFailed};
 ghost use Rattle.list_model.specs.Names.{IsLeafOf};
 ghost use Rattle.list_model.specs.Path.{is_dash};
 ghost use Rattle.origin_model.specs.Answers.{readable};
