@@ -1,5 +1,5 @@
 -- What a request and a path are answered with, and their reads.
-use Rattle.std.proofs.Common.{◌≡◌, ◌≢◌, ℕ, Bool, true, false, List, [], ◌++◌, ◌≤◌, Option, Some, None, Result, Ok, Err, refl, sym, ap, ap₂, ◌∙◌, subst, append-nil, append_assoc}
+use Rattle.std.proofs.Common.{◌≡◌, ◌≢◌, ℕ, true, false, List, [], ◌++◌, Option, Some, None, Result, Ok, Err, refl, sym, ap, ap₂, ◌∙◌, subst, append-nil, append_assoc}
 use Rattle.std.specs.Prelude.{ok_or, length, codes, IsErr}
 use Rattle.std.specs.Int.{IsInRange}
 use Rattle.std.specs.Result.{result_unwrap_or}
@@ -9,12 +9,10 @@ use Rattle.vod_types.specs.declared.paths.Leaf.TheVariants.{Master, Mpd, Index, 
 use Rattle.vod_types.specs.declared.refusal.Refusal.{Refusal}
 use Rattle.vod_types.specs.declared.refusal.Refusal.TheVariants as refusals
 use Rattle.vod_types.specs.declared.refusal.Refusal.TheVariants.{NoMemory, StoreFailed}
-use Rattle.vod_types.specs.declared.tracks.Asked.{Asked}
 use Rattle.vod_types.specs.Results.{◌>>=◌}
 use Rattle.vod_types.proofs.StepLemmas.{ok_or_ok}
-use Rattle.vod_types.specs.Tracks.{IsTrackNumber}
 use Rattle.mp4_flat.proofs.Leaves.{ended, no_turns}
-use Rattle.list_model.specs.Names.{IsAsked, IsLeafOf}
+use Rattle.list_model.specs.Names.{IsLeafOf}
 use Rattle.list_model.specs.Path.{ask_of, is_dash, is_local}
 use Rattle.list_model.proofs.PathLemmas.{ask_of_leaf}
 use Rattle.vod_source.specs.Stored.{Read}
@@ -156,11 +154,6 @@ module _ (o : Setup) (path : List ℕ) where
 
 -- ---- the leaf of a request
 
-pub answered_at : (o : Setup) (ask : Ask) (a : Asking) (leaf : Leaf) (r : Result FlatBody Refusal) (log log_asked log_now : Option (List Read)) → is_built_leaf ask.leaf ≡ true → asking_of o ask ≡ Ok a
-    → log_asked ≡ told_with log (mapping_reads_by o (is_local ask.place) ask.target) → ask.leaf ≡ leaf → IsLeafAnswer o a leaf r log_asked log_now → IsAskAnswer o ask r log log_now
-answered_at o ask a leaf r log log_asked log_now built asked made is came =
-    ask_answered o ask a r log log_asked log_now built asked made (subst (λ (l : Leaf). IsLeafAnswer o a l r log_asked log_now) (sym is) came)
-
 pub built_leaf : (ask : Ask) → true ≡ built_paths ask → is_built_leaf ask.leaf ≡ true
 unfolding built_paths
 built_leaf ask e = sym e
@@ -168,11 +161,3 @@ built_leaf ask e = sym e
 -- the leaf of a path is one of its protocol
 pub leaf_in-range : (path : List ℕ) (ask : Ask) → ok_or (ask_of path) refusals.BadPath ≡ Ok ask → IsLeafOf (is_dash ask.place) ask.leaf
 leaf_in-range path ask read = ask_of_leaf path ask (ok_or_ok (ask_of path) refusals.BadPath ask read)
-
--- of a media playlist
-pub index_in-range : (dash : Bool) (leaf : Leaf) (sequence : ℕ) (asked : Asked) → leaf ≡ Index sequence asked → IsLeafOf dash leaf → (sequence ≤ 9999) × IsAsked asked
-index_in-range dash leaf sequence asked is h = let of = subst (IsLeafOf dash) is h in (of.1, of.2)
-
--- and of an I-frame playlist
-pub iframes_in-range : (dash : Bool) (leaf : Leaf) (sequence video : ℕ) → leaf ≡ Iframes sequence video → IsLeafOf dash leaf → (sequence ≤ 9999) × IsTrackNumber video
-iframes_in-range dash leaf sequence video is h = let of = subst (IsLeafOf dash) is h in (of.1, of.2)

@@ -3,3 +3,4 @@ pub mod InitLemmas
 pub mod Leaves
 pub mod ListedPaths
 pub mod Sequences
+pub mod PackLemmas

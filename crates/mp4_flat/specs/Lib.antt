@@ -2,3 +2,4 @@ pub mod Built
 pub mod Flat
 pub mod Inits
 pub mod Listings
+pub mod Packed

@@ -2,9 +2,13 @@
 //! written. It is the definition's plain program, short and slow; what it reads of the files is what the definition allows.
 #![tactic(auto)]
 
+mod answers;
+mod entries;
 mod init;
 mod listing;
 mod lists;
+mod packaging;
+mod packed_names;
 mod playlist;
 mod requests;
 mod segments;

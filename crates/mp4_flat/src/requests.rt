@@ -1,9 +1,9 @@
 //! What a path is answered with.
 
-ghost use Rattle.std.specs.Prelude.{◌≡◌, ◌≢◌, ◌≤◌, true, IfSome, IsErr, IsErrOf, codes, length};
+ghost use Rattle.std.specs.Prelude.{◌≡◌, ◌≤◌, true, IfSome, IsErr, IsErrOf, length};
 ghost use Rattle.std.specs.Int.{IsInRange};
 ghost use Rattle.vod_source.specs.Causes.{Rose};
-ghost use Rattle.vod_types.specs.declared.refusal.Refusal.TheVariants.{NoMemory, StoreFailed, Unsupported};
+ghost use Rattle.vod_types.specs.declared.refusal.Refusal.TheVariants.{StoreFailed};
 ghost use Rattle.list_model.specs.Names.{IsLeafOf};
 ghost use Rattle.list_model.specs.Path.{is_dash};
 ghost use Rattle.origin_model.specs.Answers.{readable};
@@ -12,13 +12,12 @@ ghost use Rattle.flat_lists.specs.Asked.{setup_of};
 ghost use Rattle.mp4_flat.specs.Built.{built_paths, is_built_leaf};
 ghost use Rattle.mp4_flat.specs.Flat.{IsFlatAnswer, IsAskAnswer};
 
-use crate::lists::{description_answer, iframes_answer, index_answer, master_answer};
-use crate::segments::{iframe_answer, init_answer, segment_answer};
+use crate::answers::{leaf_answer, unbuilt};
 use flat_lists::asking_of;
 use flat_segments::FlatBody;
 use std::alloc::Global;
 use vod_source::Store;
-use vod_types::{Ask, Leaf, Name, Refusal, Settings};
+use vod_types::{Ask, Leaf, Refusal, Settings};
 use vod_urls::read_path;
 
 /// Answers a path with the settings `settings`, over the files below `root`.
@@ -50,17 +49,6 @@ pub fn answer<S: Store>(
         return Err(unbuilt(alloc));
     }
     answer_ask(alloc, files, settings, root, ask)
-}
-
-// The refusal of a form that isn't built yet.
-fn unbuilt(alloc: Global) -> Refusal
-    ensures form { result ≢ NoMemory → result ≡ Unsupported (codes "form") }
-    ensures none_failed { result ≢ StoreFailed }
-{
-    match Name::new(alloc, "form") {
-        Ok(name) => Refusal::Unsupported { name },
-        Err(refusal) => refusal,
-    }
 }
 
 #[tactic(auto, unfolding(crate::specs::Built::built_paths))]
@@ -106,36 +94,5 @@ fn answer_ask<S: Store>(
         Ok(asking) => asking,
         Err(refusal) => return Err(refusal),
     };
-    match leaf {
-        Leaf::Master => master_answer(alloc, files, settings, root, &asking),
-        Leaf::Mpd => description_answer(alloc, files, settings, root, &asking),
-        Leaf::Index { sequence, asked } => {
-            index_answer(alloc, files, settings, root, &asking, sequence, asked)
-        }
-        Leaf::Init {
-            part,
-            sequence,
-            asked,
-        } => init_answer(alloc, files, settings, root, &asking, part, sequence, asked),
-        Leaf::Segment {
-            number,
-            sequence,
-            asked,
-            form,
-        } => segment_answer(
-            alloc, files, settings, root, &asking, number, sequence, asked, form,
-        ),
-        Leaf::Iframes { sequence, video } => {
-            iframes_answer(alloc, files, settings, root, &asking, sequence, video)
-        }
-        Leaf::Iframe {
-            number,
-            index,
-            sequence,
-            video,
-        } => iframe_answer(
-            alloc, files, settings, root, &asking, number, index, sequence, video,
-        ),
-        Leaf::Clip { .. } => Err(unbuilt(alloc)),
-    }
+    leaf_answer(alloc, files, settings, root, &asking, leaf)
 }
