@@ -21,3 +21,4 @@ pub mod CountLemmas
 pub mod CellsFound
 pub mod TrackRowLemmas
 pub mod AloneLemmas
+pub mod RowsFound

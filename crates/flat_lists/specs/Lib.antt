@@ -12,3 +12,5 @@ pub mod LookedParts
 pub mod LookedSequences
 pub mod Described
 pub mod Counted
+pub mod CountedCells
+pub mod Written
