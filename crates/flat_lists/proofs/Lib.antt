@@ -22,3 +22,6 @@ pub mod CellsFound
 pub mod TrackRowLemmas
 pub mod AloneLemmas
 pub mod RowsFound
+pub mod RowTimes
+pub mod RepsFound
+pub mod RepLemmas

@@ -1,14 +1,16 @@
 -- The periods over sequences that were looked at; this project's own.
-use Rattle.std.specs.Prelude.{ℕ, ◌+◌, Bool, List, map, sum_by, take, option_and_then, unwrap_or}
+use Rattle.std.specs.Prelude.{ℕ, ◌+◌, ◌++◌, Bool, List, map, sum_by, take, pos, option_and_then, option_map, option_to_list, unwrap_or}
 use Rattle.vod_types.specs.declared.segments.SegmentRow.{SegmentRow}
 use Rattle.vod_types.specs.declared.tracks.Kind.{Kind}
 use Rattle.clip_model.specs.declared.Part.{Part}
 use Rattle.clip_model.specs.Mapping.{Mapping, sequence_at}
 use Rattle.list_model.specs.declared.Rep.{Rep}
+use Rattle.list_model.specs.Manifest.{HasCodecName}
+use Rattle.segment_model.specs.Laws.{AreTimelineRows}
 use Rattle.segment_model.specs.Cut.{listed_part}
 use Rattle.segment_model.specs.Grid.{SegmentGrid, PartGrid, cells}
 use Rattle.flat_lists.specs.CountedCells.{track_cells}
-use Rattle.flat_lists.specs.PartTracks.{Seen}
+use Rattle.flat_lists.specs.PartTracks.{PartSeen, Seen}
 
 -- how a part is cut for one of its tracks
 abbrev pub grid_seen : SegmentGrid → Bool → Part → Seen → PartGrid
@@ -39,3 +41,13 @@ rep_seen m g align sequence number first part s = record {
   language = option_and_then (λ q. q.language) (sequence_at m sequence);
   rows = rows_seen g align s.0.kind number first part s;
 }
+
+-- a codec's name where there is one, and rows in order
+pub record IsWritable (s : Seen) : Type 0 where
+  pub codec : HasCodecName s.0.kind s.0.video
+  pub rows : AreTimelineRows (pos 0) s.1
+
+-- those of a part, video first
+abbrev pub reps_seen : Mapping → SegmentGrid → Bool → ℕ → ℕ → ℕ → Part × PartSeen → List Rep
+reps_seen m g align sequence number first p =
+    option_to_list (option_map (rep_seen m g align sequence number first p.0) p.1.video) ++ option_to_list (option_map (rep_seen m g align sequence number first p.0) p.1.audio)
