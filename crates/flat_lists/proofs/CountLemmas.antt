@@ -12,6 +12,7 @@ use Rattle.flat_samples.specs.Rows.{IsPlacedRow}
 use Rattle.flat_segments.proofs.Counts.{count_low}
 use Rattle.flat_segments.proofs.Places.{cells_small}
 use Rattle.flat_lists.specs.CountedCells.{length_seen}
+use Rattle.flat_lists.specs.Written.{declared_cells}
 
 -- an element of a list
 pub at_item : {X : Type 0} (P : X → Type 0) (xs : List X) (i : ℕ) (x : X) → i < length xs → x ≡ get_or xs i x → All P xs → P x
@@ -30,3 +31,10 @@ length_low g part lead h placed = by part.length_ms h.length h.start
     by : (o : Option ℕ) → IfSome o (λ n. n ≤ 2 ^ 41) → IsTime part.start → cells g (unwrap_or o (milliseconds (lead_end part.start lead))) ≤ 2 ^ 42
     by None h time = count_low g part.start lead time placed
     by (Some n) h time = let few = cells_small g n in omega (arith, few, h)
+
+pub declared_low : (g : SegmentGrid) (part : Part) → IsPart part → declared_cells g part ≤ 2 ^ 42
+declared_low g part h = by part.length_ms h.length
+  where
+    by : (o : Option ℕ) → IfSome o (λ n. n ≤ 2 ^ 41) → cells g (unwrap_or o 0) ≤ 2 ^ 42
+    by None h = let few = cells_small g 0 in omega (arith, few)
+    by (Some n) h = let few = cells_small g n in omega (arith, few, h)
