@@ -25,3 +25,4 @@ pub mod RowsFound
 pub mod RowTimes
 pub mod RepsFound
 pub mod RepLemmas
+pub mod SequenceReps
