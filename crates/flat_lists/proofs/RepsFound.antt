@@ -15,17 +15,15 @@ use Rattle.mp4_model.specs.Video.{video_codec_name}
 use Rattle.clip_model.specs.declared.Part.{Part}
 use Rattle.clip_model.specs.declared.Piece.{Piece}
 use Rattle.clip_model.specs.IsTimeline.{IsTimeline}
-use Rattle.segment_model.specs.Grid.{SegmentGrid}
 use Rattle.list_model.specs.declared.Rep.{Rep}
 use Rattle.origin_model.specs.Lists.{CheckedSequence, aac_of, bandwidth, language_of, rate_of, representation_by, representations_of}
 use Rattle.origin_model.specs.Loaded.{CheckedPiece, checked}
 use Rattle.origin_model.specs.Requests.{Setup, Asking, grid_in_use, honours_edits}
 use Rattle.origin_model.specs.Samples.{checked_track}
 use Rattle.origin_model.specs.Sources.{part_pieces}
-use Rattle.flat_lists.specs.Described.{part_view}
 use Rattle.flat_lists.specs.LookedParts.{PartFound, first_found, part_found}
-use Rattle.flat_lists.specs.LookedSequences.{FoundPart, part_kept}
-use Rattle.flat_lists.specs.PartTracks.{facts_due, rows_alone, seen_due}
+use Rattle.flat_lists.specs.LookedSequences.{part_kept}
+use Rattle.flat_lists.specs.PartTracks.{facts_due, rows_alone}
 use Rattle.flat_lists.specs.Written.{first_cell, rep_seen, reps_seen}
 use Rattle.flat_lists.proofs.AloneLemmas.{number_of}
 use Rattle.flat_lists.proofs.CellsFound.{Numbered, asked_of_first}

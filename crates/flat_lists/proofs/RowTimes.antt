@@ -1,5 +1,5 @@
 -- The times of the listed segments of a track are those of its rows.
-use Rattle.std.proofs.Common.{◌≡◌, ℕ, ◌+◌, ◌≤◌, ◌^◌, Bool, true, false, List, [], ◌∷◌, ◌++◌, map, suc, ℤ, pos, negsuc, ◌+ℤ◌, ◌-ℤ◌, ◌≤ℤ◌, unsigned_abs, All, refl, ap, subst, sym, arith, ltb, length}
+use Rattle.std.proofs.Common.{◌≡◌, ℕ, ◌+◌, ◌≤◌, ◌^◌, Bool, true, false, List, [], ◌∷◌, ◌++◌, map, suc, ℤ, pos, negsuc, ◌+ℤ◌, ◌-ℤ◌, ◌≤ℤ◌, unsigned_abs, All, refl, subst, sym, arith, ltb, length}
 use Rattle.std.specs.Prelude.{filter, flat_map, max, ◌==◌}
 use Rattle.std.specs.List.{enumerate_from, range_with_len}
 use Rattle.std.proofs.lemmas.Int.{ints}
@@ -7,7 +7,7 @@ use Rattle.std.proofs.lemmas.List.Elements.{All-cons, All-head, All-nil, All-tai
 use Rattle.vod_types.specs.declared.segments.SegmentRow.{SegmentRow}
 use Rattle.vod_types.specs.declared.tracks.Kind.{Kind}
 use Rattle.clip_model.specs.IsTimeline.{IsTime}
-use Rattle.segment_model.specs.Cut.{cell_reached, group, groups, listed_groups, listed_part, marked, marked_lead, segment_rows, start_of}
+use Rattle.segment_model.specs.Cut.{cell_reached, group, groups, listed_groups, listed_part, marked_lead, segment_rows, start_of}
 use Rattle.segment_model.specs.Grid.{PartGrid}
 use Rattle.segment_model.specs.Laws.{AreTimelineRows, PlaceRises}
 use Rattle.segment_model.specs.Listing.{ListedSegment, first_marked}

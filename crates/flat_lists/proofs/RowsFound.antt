@@ -1,5 +1,5 @@
 -- The rows of a part of a sequence, where a track is asked alone.
-use Rattle.std.proofs.Common.{◌≡◌, ℕ, zero, suc, ◌+◌, ◌<◌, Bool, true, false, List, [], ◌∷◌, ◌++◌, map, take, drop, length, true≢false, ℤ, Option, Some, None, Result, Ok, refl, sym, ap, ap₂, ◌∙◌, subst, arith}
+use Rattle.std.proofs.Common.{◌≡◌, ℕ, zero, suc, ◌+◌, ◌<◌, Bool, true, false, List, [], ◌∷◌, ◌++◌, map, take, drop, length, true≢false, ℤ, Option, Some, None, Ok, refl, sym, ap, ap₂, ◌∙◌, subst, arith}
 use Rattle.std.specs.Prelude.{filter, ◌==◌, sum_by, is_some, unwrap_or}
 use Rattle.std.specs.List.{list_all}
 use Rattle.std.proofs.lemmas.Bool.{and_parts, eq-eqb, eqb-true}
@@ -7,14 +7,12 @@ use Rattle.std.proofs.lemmas.List.{drop-map, map-append}
 use Rattle.std.proofs.lemmas.List.Elements.{filter-append}
 use Rattle.std.proofs.lemmas.List.Sums.{sum_by-cons}
 use Rattle.vod_types.specs.declared.segments.SegmentRow.{SegmentRow}
-use Rattle.vod_types.specs.declared.refusal.Refusal.{Refusal}
 use Rattle.vod_types.specs.declared.tracks.Asked.{Asked}
 use Rattle.vod_types.specs.declared.tracks.Kind.{Kind}
 use Rattle.vod_types.specs.declared.tracks.Kind.TheVariants.{Video, Audio}
 use Rattle.vod_types.specs.Results.{each_in_turn}
 use Rattle.vod_types.specs.Tracks.{lead_of}
 use Rattle.clip_model.specs.declared.Part.{Part}
-use Rattle.clip_model.specs.declared.Piece.{Piece}
 use Rattle.clip_model.specs.IsTimeline.{IsTimeline}
 use Rattle.clip_model.specs.Timeline.{Timeline}
 use Rattle.segment_model.specs.Cut.{listed_from, listed_groups, listed_part, groups, segment_rows}
@@ -29,7 +27,7 @@ use Rattle.origin_model.specs.Requests.{Setup, Asking, grid_in_use, honours_edit
 use Rattle.origin_model.specs.Sources.{is_declared, part_pieces, source_of, source_part}
 use Rattle.origin_model.proofs.PieceOrder.{no_length}
 use Rattle.flat_lists.specs.PartTracks.{rows_alone}
-use Rattle.flat_lists.specs.Written.{declared_cells, first_cell, grid_seen, rows_seen}
+use Rattle.flat_lists.specs.Written.{declared_cells, first_cell, rows_seen}
 use Rattle.flat_lists.specs.declared.part_tracks.TrackFacts.{TrackFacts}
 use Rattle.flat_lists.proofs.AloneLemmas.{number_of, sources_alone}
 use Rattle.flat_lists.proofs.CellsFound.{length_is}
