@@ -21,3 +21,8 @@ pub mod CountLemmas
 pub mod CellsFound
 pub mod TrackRowLemmas
 pub mod AloneLemmas
+pub mod RowsFound
+pub mod RowTimes
+pub mod RepsFound
+pub mod RepLemmas
+pub mod SequenceReps

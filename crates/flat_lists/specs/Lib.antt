@@ -13,3 +13,4 @@ pub mod LookedSequences
 pub mod Described
 pub mod Counted
 pub mod CountedCells
+pub mod Written

@@ -1,11 +1,12 @@
 //! The cells of all parts of all sequences.
 
-ghost use Rattle.std.specs.Prelude.{◌≡◌, ◌≤◌, ◌*◌, ◌^◌, All, IfSome, length, map, option_map};
+ghost use Rattle.std.specs.Prelude.{◌≡◌, ◌+◌, ◌≤◌, ◌*◌, ◌^◌, All, IfSome, length, map, option_map, sum_by};
 ghost use Rattle.clip_model.specs.IsTimeline.{IsPart};
 ghost use Rattle.segment_model.specs.Grid.{cells as cells_of_ms};
 ghost use Rattle.flat_lists.specs.CountedCells.{all_cells as all_cells_of, length_seen, part_cells as part_cells_of, sequence_cells as sequence_cells_of, track_cells as track_cells_of};
 ghost use Rattle.flat_lists.specs.LookedSequences.{looked_seen, IsLookedPart, IsLookedSequence};
 ghost use Rattle.flat_lists.specs.PartTracks.{seen_of, IsPlacedTrack};
+ghost use Rattle.flat_lists.specs.Written.{declared_cells as declared_cells_of};
 ghost use Rattle.flat_samples.specs.Rows.{timed_view, IsPlacedRow};
 
 use crate::looked_sequences::{LookedPart, LookedSequence};
@@ -75,6 +76,28 @@ fn length_cells(grid: &Grid, part: &Part, lead: &[TimedSample]) -> u64
     ensures bound { result ≤ 2 ^ 42 }
 {
     cells(grid, track_length(part, lead))
+}
+
+/// The number of the first cell behind at most 128 parts, which have so many cells as their declared lengths say.
+pub(crate) fn first_cell_behind(grid: &Grid, parts: &[LookedPart]) -> u64
+    requires each { All IsLookedPart parts.now }
+    requires few { length parts.now ≤ 128 }
+    ensures { result ≡ 1 + sum_by (λ p. declared_cells_of grid.now p.part) parts.now }
+{
+    let mut number = 1;
+    for looked in parts {
+        number += declared_cells(grid, &looked.part);
+    }
+    number
+}
+
+// The cells of a part by its declared length; a length that is not declared is 0 here.
+fn declared_cells(grid: &Grid, part: &Part) -> u64
+    requires { IsPart part.now }
+    ensures cells { result ≡ declared_cells_of grid.now part.now }
+    ensures bound { result ≤ 2 ^ 42 }
+{
+    cells(grid, part.length_ms.unwrap_or(0))
 }
 
 /// The length of a track of a part in milliseconds, whose lead rows are these.

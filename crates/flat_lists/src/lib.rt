@@ -18,6 +18,7 @@ mod looked_sequences;
 mod marked_rows;
 mod master;
 mod part_tracks;
+mod reps;
 mod shown;
 mod track_rows;
 mod variants;

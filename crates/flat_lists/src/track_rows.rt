@@ -1,10 +1,11 @@
 //! The listed segments of a track of a part.
 
-ghost use Rattle.std.specs.Prelude.{◌≡◌, ◌+◌, ◌≤◌, ◌<◌, ◌^◌, IfErr, IfOk, map, pos};
+ghost use Rattle.std.specs.Prelude.{◌≡◌, ◌+◌, ◌≤◌, ◌<◌, ◌^◌, ◌≤ℤ◌, All, IfErr, IfOk, map, pos};
 ghost use Rattle.vod_types.specs.declared.refusal.Refusal.TheVariants.{NoMemory};
 ghost use Rattle.clip_model.specs.IsTimeline.{IsTime};
 ghost use Rattle.segment_model.specs.Cut.{listed_part};
 ghost use Rattle.segment_model.specs.Laws.{AreTimelineRows};
+ghost use Rattle.list_model.specs.Manifest.{IsListedRow};
 ghost use Rattle.flat_samples.specs.Rows.{part_rows, ArePlacedRows};
 ghost use Rattle.flat_segments.specs.Cells.{part_grid_of};
 
@@ -27,10 +28,12 @@ pub(crate) fn track_rows(
     requires few { cells.cells ≤ 100000 }
     requires numbers { number + cells.cells < 2 ^ 32 }
     requires start { IsTime cells.start }
+    requires low { pos 0 ≤ℤ cells.start }
     requires placed { ArePlacedRows (part_rows rows.now) }
     requires order { AreTimelineRows (pos 0) (part_rows rows.now) }
     requires part { part ≤ 9999 }
     ensures rows { IfOk result (λ out. out.items ≡ map (λ l. l.0) (listed_part kind part number (part_grid_of cells.entry) (part_rows rows.now))) }
+    ensures times { IfOk result (λ out. All IsListedRow out.items) }
     ensures only { IfErr result (λ refusal. refusal ≡ NoMemory) }
 {
     let own = ListedPart {
