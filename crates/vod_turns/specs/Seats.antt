@@ -1,5 +1,5 @@
 -- Sessions in seats, each of which takes its turns on one link (this project's own).
-use Rattle.std.specs.Prelude.{◌≡◌, ◌≢◌, ℕ, ◌+◌, ◌-◌, ◌*◌, ◌^◌, ◌<◌, ◌≤◌, min, Bool, List, ◌++◌, length, sum, Option, Some, None, IsTrue, slice_get, slice_index}
+use Rattle.std.specs.Prelude.{◌≡◌, ◌≢◌, ℕ, ◌+◌, ◌-◌, ◌*◌, ◌^◌, ◌<◌, ◌≤◌, min, Bool, List, ◌++◌, length, sum, sum_by, Option, Some, None, IsTrue, slice_get, slice_index}
 use Rattle.vod_types.specs.declared.paths.ByteRange.{ByteRange}
 use Rattle.list_model.specs.declared.Why.TheVariants as why
 use Rattle.list_model.specs.Exchange.{IsServed}
@@ -36,6 +36,14 @@ left_at calls_left session (Some end) = 0
 -- the same of a seat
 abbrev pub seat_left : {C : Type 0} → (C → ℕ) → Seat C → ℕ
 seat_left calls_left seat = left_at calls_left seat.session seat.end
+
+-- no step more is left, and one fewer at least where the session wasn't over
+abbrev pub Falls : Option LinkEnd → ℕ → ℕ → Type 0
+Falls end before now = (now ≤ before) × (end ≡ None → now < before)
+
+-- a bound on the steps that all have left
+abbrev pub all_left : {C : Type 0} → (C → ℕ) → List (Seat C) → ℕ
+all_left calls_left seats = sum_by (λ seat. seat_left calls_left seat) seats
 
 -- how far the session of a seat has come
 abbrev pub state_of : {C : Type 0} → Seat C → LinkState
