@@ -1,5 +1,5 @@
 -- Sessions in seats: what one turn of one of them does.
-use Rattle.std.proofs.Common.{◌≡◌, ◌≢◌, ℕ, zero, suc, ◌+◌, ◌-◌, ◌^◌, ◌<◌, ◌≤◌, ◌⊎◌, Bool, false, IsTrue, List, [], ◌∷◌, ◌++◌, length, take, set, get_or, replicate, Option, Some, None, refl, sym, ap, ◌∙◌, subst, inl, inr, arith, append_assoc, length-set, get_or-set_same, get_or-set_other, eq-eqb}
+use Rattle.std.proofs.Common.{◌≡◌, ◌≢◌, ℕ, zero, suc, ◌+◌, ◌-◌, ◌^◌, ◌<◌, ◌≤◌, ◌⊎◌, Bool, false, IsTrue, List, [], ◌∷◌, ◌++◌, length, take, set, get_or, replicate, Option, Some, None, refl, sym, ap, ◌∙◌, subst, inl, inr, arith, append_assoc, length-set, get_or-set_same, get_or-set_other, eq-eqb, cond, add-zero}
 use Rattle.std.specs.Prelude.{◌==◌, sum, sum_by, slice_get}
 use Rattle.std.proofs.lemmas.List.{append-nil, length-replicate, get_or-replicate}
 use Rattle.std.proofs.lemmas.List.Folds.{sum_by-replicate}
@@ -337,3 +337,19 @@ all_fall {C = C} f seats n now d seat within falls is =
     let all = sum_by-set f seats n now d within in
     let same = get_or_from_slice_get seats n seat d is in
     (omega (arith, all, falls.0), λ none. let less = falls.1 (ap (λ (s : Seat C). s.end) same ∙ none) in omega (arith, all, less))
+
+pub below_or_at : (k n : ℕ) → k < n + 1 → (k < n) ⊎ (k ≡ n)
+below_or_at zero zero below = inr refl
+below_or_at zero (suc n) below = inl (omega arith)
+below_or_at (suc k) zero below = absurd (omega arith)
+below_or_at (suc k) (suc n) below = elim (below_or_at k n (omega arith)) [ inl less ↦ inl (omega arith) | inr at ↦ inr (ap suc at) ]
+
+-- one more turn of one seat
+pub one_more : (n : ℕ) (turns : ℕ → ℕ) → IsNext n turns (λ i. turns i + cond (i == n) 1 0)
+one_more n turns = record {
+  more = ap (λ (b : Bool). turns n + cond b 1 0) (eq-eqb n n refl);
+  others = λ i other. ap (λ (b : Bool). turns i + cond b 1 0) (not_same i n other) ∙ add-zero (turns i);
+}
+  where
+    not_same : (a b : ℕ) → a ≢ b → (a == b) ≡ false
+    not_same a b other = grind (arith, nat_tests)

@@ -45,6 +45,14 @@ Falls end before now = (now ≤ before) × (end ≡ None → now < before)
 abbrev pub all_left : {C : Type 0} → (C → ℕ) → List (Seat C) → ℕ
 all_left calls_left seats = sum_by (λ seat. seat_left calls_left seat) seats
 
+-- one session at least isn't over
+abbrev pub GoOn : {C : Type 0} → List (Seat C) → Type 0
+GoOn {C = C} seats = (i : ℕ) × (seat : Seat C) × (slice_get seats i ≡ Some seat) × (seat.end ≡ None)
+
+-- all are over
+abbrev pub AreOver : {C : Type 0} → List (Seat C) → Type 0
+AreOver {C = C} seats = (i : ℕ) (seat : Seat C) → slice_get seats i ≡ Some seat → (end : LinkEnd) × (seat.end ≡ Some end)
+
 -- how far the session of a seat has come
 abbrev pub state_of : {C : Type 0} → Seat C → LinkState
 state_of seat = record { progress = seat.session.progress; end = seat.end }
@@ -52,6 +60,10 @@ state_of seat = record { progress = seat.session.progress; end = seat.end }
 -- these are the states of the seats
 abbrev pub AreStates : {C : Type 0} → List (Seat C) → List LinkState → Type 0
 AreStates {C = C} seats states = (i : ℕ) (seat : Seat C) (state : LinkState) → slice_get seats i ≡ Some seat → slice_get states i ≡ Some state → state ≡ state_of seat
+
+-- these are the ends of the seats that are over
+abbrev pub AreEnds : {C : Type 0} → List (Seat C) → List LinkEnd → Type 0
+AreEnds {C = C} seats ends = (i : ℕ) (seat : Seat C) (end told : LinkEnd) → slice_get seats i ≡ Some seat → slice_get ends i ≡ Some told → seat.end ≡ Some end → told ≡ end
 
 -- by how much a count rose, and at least by one where it may stand at its type's end
 abbrev pub risen : ℕ → ℕ → ℕ
