@@ -1,4 +1,4 @@
-use Rattle.std.proofs.Common.{ℕ, refl, sym, ◌∙◌, subst, arith}
+use Rattle.std.proofs.Common.{refl, sym, ◌∙◌, subst, arith}
 use Rattle.vod_turns.specs.Seats.{AreSeated}
 use Rattle.vod_turns.proofs.SeatLemmas.{fresh_ready, seats_start}
 use Rattle.vod_turns.proofs.rounds.take_rounds.Goals as goal
