@@ -15,8 +15,8 @@ use Rattle.vod_session.specs.Steps.{Answers}
 use Rattle.vod_turns.specs.declared.link_state.LinkState.{LinkState}
 use Rattle.vod_turns.specs.declared.seats.Seat.{Seat}
 use Rattle.vod_turns.specs.Causes.{HaveCauses}
-use Rattle.vod_turns.specs.Seats.{AreSeated, AreStates, HasDone, IsSeated, state_of}
-use Rattle.vod_turns.specs.Turns.{AreTurned, HasCome, IsTurned, times}
+use Rattle.vod_turns.specs.Seats.{AreEnds, AreOver, AreSeated, AreStates, HasDone, IsSeated, state_of}
+use Rattle.vod_turns.specs.Turns.{AreServed, AreTurned, HasCome, IsTurned, times}
 use Rattle.vod_turns.proofs.SeatLemmas.{front_more}
 use Rattle.vod_turns.proofs.TurnLemmas.{at_front}
 
@@ -117,4 +117,40 @@ module _
           let got = get_map (λ (state : LinkState). state.end) states i (Some end) end_is in
           let found = state_at i got.0 got.1 in
           found.0.6.memory end (sym (ap (λ (s : LinkState). s.end) found.1) ∙ got.2);
+    }
+
+  module _ (ends : List LinkEnd) (over : AreOver seats) (told : AreEnds seats ends) where
+    end_at : (i : ℕ) (seat : Seat C) (end : LinkEnd) → slice_get seats i ≡ Some seat → slice_get ends i ≡ Some end → seat.end ≡ Some end
+    end_at i seat end is end_is = let o = over i seat is in o.1 ∙ ap (λ (e : LinkEnd). Some e) (sym (told i seat o.0 end is end_is o.1))
+
+    pub links_served : (answer : Answers) → AreAnswers tells answer → AreServed answer left written links links_now ends faults faults_now
+    links_served answer answers = record {
+      met = are.met;
+      together = are.together;
+      each = λ i link link_now end link_is now_is end_is input text all wrote.
+          let within = slice_get_within links i link link_is in
+          let seat = get_some seats i (omega (arith, seated)) in
+          let is = are.each i link link_now seat.0 link_is now_is seat.1 in
+          let did = is.told answer answers input text all wrote in
+          let done = subst (λ (o : Option LinkEnd). HasDone answer rest input did.0 did.1 seat.0.session (turns i) (slice_index are.met i) o) (end_at i seat.0 end seat.1 end_is) did.4 in
+          (did.0, did.3, done.0);
+    }
+
+    pub served_causes : length ends ≡ length seats → HaveCauses count links links_now (map (λ (end : LinkEnd). Some end) ends) faults faults_now
+    served_causes many = record {
+      link = λ i before now end before_is now_is end_is failed.
+          let got = get_map (λ (e : LinkEnd). Some e) ends i (Some end) end_is in
+          let within = slice_get_within links i before before_is in
+          let seat = get_some seats i (omega (arith, seated)) in
+          (are.each i before now seat.0 before_is now_is seat.1).link_failed end (end_at i seat.0 got.0 seat.1 got.1 ∙ got.2) failed;
+      store = λ i end end_is failed.
+          let got = get_map (λ (e : LinkEnd). Some e) ends i (Some end) end_is in
+          let within = slice_get_within ends i got.0 got.1 in
+          let at = at_place i (omega (arith, many, seated)) in
+          at.6.store_failed end (end_at i at.2 got.0 at.5 got.1 ∙ got.2) failed;
+      memory = λ i end end_is.
+          let got = get_map (λ (e : LinkEnd). Some e) ends i (Some end) end_is in
+          let within = slice_get_within ends i got.0 got.1 in
+          let at = at_place i (omega (arith, many, seated)) in
+          at.6.memory end (end_at i at.2 got.0 at.5 got.1 ∙ got.2);
     }

@@ -1,11 +1,11 @@
 -- Sessions in seats: what one turn of one of them does.
-use Rattle.std.proofs.Common.{◌≡◌, ◌≢◌, ℕ, zero, suc, ◌+◌, ◌-◌, ◌^◌, ◌<◌, ◌≤◌, ◌⊎◌, Bool, false, IsTrue, List, [], ◌∷◌, ◌++◌, length, take, set, get_or, replicate, Option, Some, None, refl, sym, ap, ◌∙◌, subst, inl, inr, arith, append_assoc, length-set, get_or-set_same, get_or-set_other, eq-eqb}
-use Rattle.std.specs.Prelude.{◌==◌, sum, slice_get}
+use Rattle.std.proofs.Common.{◌≡◌, ◌≢◌, ℕ, zero, suc, ◌+◌, ◌-◌, ◌^◌, ◌<◌, ◌≤◌, ◌⊎◌, Bool, false, IsTrue, List, [], ◌∷◌, ◌++◌, length, take, set, get_or, replicate, Option, Some, None, refl, sym, ap, ◌∙◌, subst, inl, inr, arith, append_assoc, length-set, get_or-set_same, get_or-set_other, eq-eqb, cond, add-zero}
+use Rattle.std.specs.Prelude.{◌==◌, sum, sum_by, slice_get}
 use Rattle.std.proofs.lemmas.List.{append-nil, length-replicate, get_or-replicate}
 use Rattle.std.proofs.lemmas.List.Folds.{sum_by-replicate}
 use Rattle.std.proofs.lemmas.Bool.Decides.{nat_tests}
 use Rattle.std.proofs.lemmas.List.Sums.{sum_by-set, count_by_more_yes, count_by_more_no}
-use Rattle.std.proofs.lemmas.Option.{slice_get_within}
+use Rattle.std.proofs.lemmas.Option.{slice_get_within, get_or_from_slice_get}
 use Rattle.vod_types.specs.declared.paths.ByteRange.{ByteRange}
 use Rattle.list_model.specs.declared.Why.TheVariants as why
 use Rattle.list_model.specs.Exchange.{IsServed}
@@ -15,13 +15,13 @@ use Rattle.vod_http.specs.Answered.{Rest}
 use Rattle.vod_session.specs.declared.state.LinkEnd.{LinkEnd}
 use Rattle.vod_session.specs.declared.state.Turn.TheVariants.{Again, Ended}
 use Rattle.vod_session.specs.Calls.{AreAnswers, IsToldStep}
-use Rattle.vod_session.specs.Sessions.{SessionValue, SendsOnly, fresh, is_under_way}
+use Rattle.vod_session.specs.Sessions.{SessionValue, SendsOnly, fresh, is_under_way, steps_left}
 use Rattle.vod_session.specs.Steps.{Answers}
 use Rattle.vod_session.specs.Histories.{IsFront, IsMet}
 use Rattle.vod_session.proofs.ServingLemmas.{on_tells}
 use Rattle.vod_turns.specs.declared.seats.Seat.{Seat}
 use Rattle.vod_turns.specs.Histories.{IsAtTurn}
-use Rattle.vod_turns.specs.Seats.{AreFresh, AreReady, AreSeated, HasDone, IsNext, IsReady, IsSeated, risen}
+use Rattle.vod_turns.specs.Seats.{AreFresh, AreReady, AreSeated, Falls, HasDone, IsNext, IsReady, IsSeated, left_at, risen}
 use Rattle.vod_turns.specs.Turns.{times}
 use Rattle.vod_turns.proofs.TurnLemmas.{at_start, at_next, at_end}
 
@@ -310,4 +310,46 @@ next_of_order order k d within = record {
 }
   where
     not_same : (a b : ℕ) → b ≢ a → (a == b) ≡ false
+    not_same a b other = grind (arith, nat_tests)
+
+-- ---- what is left
+
+pub falls_over : (o : Option LinkEnd) (end : LinkEnd) (n : ℕ) → o ≡ Some end → Falls o n n
+falls_over o end n over = (omega arith, λ none. absurd (let two : None ≡ Some end = sym none ∙ over in cc))
+
+module _ {C : Type 0} (calls_left : C → ℕ) (before now : SessionValue C) (o : Option LinkEnd) (none : o ≡ None) where
+  pub falls_again : steps_left calls_left now < steps_left calls_left before → Falls o (left_at calls_left before o) (left_at calls_left now o)
+  falls_again fewer = subst (λ (e : Option LinkEnd). Falls o (left_at calls_left before e) (left_at calls_left now e)) (sym none) (omega (arith, fewer), λ n. omega (arith, fewer))
+
+  pub falls_end : (end : LinkEnd) → Falls o (left_at calls_left before o) (left_at calls_left now (Some end))
+  falls_end end = subst (λ (e : Option LinkEnd). Falls o (left_at calls_left before e) (left_at calls_left now (Some end))) (sym none) (omega arith, λ n. omega arith)
+
+pub get_other : {X : Type 0} (xs : List X) (n i : ℕ) (y : X) → i ≢ n → slice_get (set xs n y) i ≡ slice_get xs i
+get_other [] n i y other = refl
+get_other (x ∷ xs) zero zero y other = absurd (other refl)
+get_other (x ∷ xs) zero (suc i) y other = refl
+get_other (x ∷ xs) (suc n) zero y other = refl
+get_other (x ∷ xs) (suc n) (suc i) y other = get_other xs n i y (λ e. other (ap suc e))
+
+pub all_fall : {C : Type 0} (f : Seat C → ℕ) (seats : List (Seat C)) (n : ℕ) (now d seat : Seat C) → n < length seats → Falls (get_or seats n d).end (f (get_or seats n d)) (f now) →
+    slice_get seats n ≡ Some seat → Falls seat.end (sum_by f seats) (sum_by f (set seats n now))
+all_fall {C = C} f seats n now d seat within falls is =
+    let all = sum_by-set f seats n now d within in
+    let same = get_or_from_slice_get seats n seat d is in
+    (omega (arith, all, falls.0), λ none. let less = falls.1 (ap (λ (s : Seat C). s.end) same ∙ none) in omega (arith, all, less))
+
+pub below_or_at : (k n : ℕ) → k < n + 1 → (k < n) ⊎ (k ≡ n)
+below_or_at zero zero below = inr refl
+below_or_at zero (suc n) below = inl (omega arith)
+below_or_at (suc k) zero below = absurd (omega arith)
+below_or_at (suc k) (suc n) below = elim (below_or_at k n (omega arith)) [ inl less ↦ inl (omega arith) | inr at ↦ inr (ap suc at) ]
+
+-- one more turn of one seat
+pub one_more : (n : ℕ) (turns : ℕ → ℕ) → IsNext n turns (λ i. turns i + cond (i == n) 1 0)
+one_more n turns = record {
+  more = ap (λ (b : Bool). turns n + cond b 1 0) (eq-eqb n n refl);
+  others = λ i other. ap (λ (b : Bool). turns i + cond b 1 0) (not_same i n other) ∙ add-zero (turns i);
+}
+  where
+    not_same : (a b : ℕ) → a ≢ b → (a == b) ≡ false
     not_same a b other = grind (arith, nat_tests)

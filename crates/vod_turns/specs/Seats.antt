@@ -1,5 +1,5 @@
 -- Sessions in seats, each of which takes its turns on one link (this project's own).
-use Rattle.std.specs.Prelude.{◌≡◌, ◌≢◌, ℕ, ◌+◌, ◌-◌, ◌*◌, ◌^◌, ◌<◌, ◌≤◌, min, Bool, List, ◌++◌, length, sum, Option, Some, None, IsTrue, slice_get, slice_index}
+use Rattle.std.specs.Prelude.{◌≡◌, ◌≢◌, ℕ, ◌+◌, ◌-◌, ◌*◌, ◌^◌, ◌<◌, ◌≤◌, min, Bool, List, ◌++◌, length, sum, sum_by, Option, Some, None, IsTrue, slice_get, slice_index}
 use Rattle.vod_types.specs.declared.paths.ByteRange.{ByteRange}
 use Rattle.list_model.specs.declared.Why.TheVariants as why
 use Rattle.list_model.specs.Exchange.{IsServed}
@@ -37,6 +37,22 @@ left_at calls_left session (Some end) = 0
 abbrev pub seat_left : {C : Type 0} → (C → ℕ) → Seat C → ℕ
 seat_left calls_left seat = left_at calls_left seat.session seat.end
 
+-- no step more is left, and one fewer at least where the session wasn't over
+abbrev pub Falls : Option LinkEnd → ℕ → ℕ → Type 0
+Falls end before now = (now ≤ before) × (end ≡ None → now < before)
+
+-- a bound on the steps that all have left
+abbrev pub all_left : {C : Type 0} → (C → ℕ) → List (Seat C) → ℕ
+all_left calls_left seats = sum_by (λ seat. seat_left calls_left seat) seats
+
+-- one session at least isn't over
+abbrev pub GoOn : {C : Type 0} → List (Seat C) → Type 0
+GoOn {C = C} seats = (i : ℕ) × (seat : Seat C) × (slice_get seats i ≡ Some seat) × (seat.end ≡ None)
+
+-- all are over
+abbrev pub AreOver : {C : Type 0} → List (Seat C) → Type 0
+AreOver {C = C} seats = (i : ℕ) (seat : Seat C) → slice_get seats i ≡ Some seat → (end : LinkEnd) × (seat.end ≡ Some end)
+
 -- how far the session of a seat has come
 abbrev pub state_of : {C : Type 0} → Seat C → LinkState
 state_of seat = record { progress = seat.session.progress; end = seat.end }
@@ -44,6 +60,10 @@ state_of seat = record { progress = seat.session.progress; end = seat.end }
 -- these are the states of the seats
 abbrev pub AreStates : {C : Type 0} → List (Seat C) → List LinkState → Type 0
 AreStates {C = C} seats states = (i : ℕ) (seat : Seat C) (state : LinkState) → slice_get seats i ≡ Some seat → slice_get states i ≡ Some state → state ≡ state_of seat
+
+-- these are the ends of the seats that are over
+abbrev pub AreEnds : {C : Type 0} → List (Seat C) → List LinkEnd → Type 0
+AreEnds {C = C} seats ends = (i : ℕ) (seat : Seat C) (end told : LinkEnd) → slice_get seats i ≡ Some seat → slice_get ends i ≡ Some told → seat.end ≡ Some end → told ≡ end
 
 -- by how much a count rose, and at least by one where it may stand at its type's end
 abbrev pub risen : ℕ → ℕ → ℕ

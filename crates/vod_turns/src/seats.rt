@@ -1,6 +1,7 @@
 //! Sessions in seats, each of which takes its turns on one link.
-ghost use Rattle.std.specs.Prelude.{◌≡◌, ℕ, ◌+◌, ◌^◌, ◌≤◌, ◌<◌, All, IfOk, List, length};
-ghost use Rattle.vod_turns.specs.Seats.{AreFresh, AreReady, AreSeated, AreStates, IsNext, IsReady, IsSeated, risen};
+ghost use Rattle.std.specs.Prelude.{◌≡◌, ◌≢◌, ℕ, ◌+◌, ◌^◌, ◌≤◌, ◌<◌, All, IfOk, List, Some, length, slice_get};
+ghost use Rattle.vod_turns.specs.Seats.{AreFresh, AreReady, AreSeated, AreStates, Falls, IsNext, IsReady, IsSeated, all_left, risen, seat_left};
+ghost use Rattle.vod_turns.specs.declared.seats.Seat.{Seat};
 ghost use Rattle.vod_turns.specs.Turns.{times};
 
 use crate::link_state::LinkState;
@@ -103,6 +104,8 @@ pub fn turn_at<A: Answerer, L: Link>(
     ensures seated { (first : List L) (turns turns_now : ℕ → ℕ) (faults : ℕ) → length first ≡ length links.old → IsNext n turns turns_now →
         AreSeated L.left L.written L.faults (A.answer (A.kept a.old)) (A.rest (A.kept a.old)) first links.old seats.old turns faults (A.faults a.old) →
         AreSeated L.left L.written L.faults (A.answer (A.kept a.old)) (A.rest (A.kept a.old)) first links.new seats.new turns_now faults (A.faults a.new) }
+    ensures others { (i : ℕ) → i ≢ n → slice_get seats.new i ≡ slice_get seats.old i }
+    ensures left { (seat : Seat A.Cursor) → slice_get seats.old n ≡ Some seat → Falls seat.end (all_left A.calls_left seats.old) (all_left A.calls_left seats.new) }
     ensures kept { A.kept a.new ≡ A.kept a.old }
     ensures later { A.faults a.old ≤ A.faults a.new }
 {
@@ -121,6 +124,7 @@ fn take_turn<A: Answerer, L: Link>(
     ensures seated { (first : L) (turns met faults : ℕ) →
         IsSeated L.left L.written L.faults (A.answer (A.kept a.old)) (A.rest (A.kept a.old)) first link.old seat.old turns met faults (A.faults a.old) →
         IsSeated L.left L.written L.faults (A.answer (A.kept a.old)) (A.rest (A.kept a.old)) first link.new seat.new (turns + 1) (met + risen (A.faults a.old) (A.faults a.new)) faults (A.faults a.new) }
+    ensures left { Falls seat.old.end (seat_left A.calls_left seat.old) (seat_left A.calls_left seat.new) }
     ensures kept { A.kept a.new ≡ A.kept a.old }
     ensures later { A.faults a.old ≤ A.faults a.new }
 {

@@ -1,7 +1,7 @@
 use Rattle.std.proofs.Common.{◌<◌, length, sym, subst, arith}
 use Rattle.std.proofs.lemmas.Option.{slice_get-get_or}
-use Rattle.vod_turns.specs.Seats.{AreReady}
-use Rattle.vod_turns.proofs.SeatLemmas.{ready_set, seats_next}
+use Rattle.vod_turns.specs.Seats.{AreReady, seat_left}
+use Rattle.vod_turns.proofs.SeatLemmas.{get_other, all_fall, ready_set, seats_next}
 use Rattle.vod_turns.proofs.seats.turn_at.Goals as goal
 
 pub take_turn-requires : goal.take_turn-requires
@@ -24,3 +24,11 @@ returns-clause-seated g c = λ first turns turns_now faults same next are.
     (slice_get-get_or c.args.links.now c.args.n c.index-links-n.result c.requires.within)
     (slice_get-get_or c.args.seats.now c.args.n c.index-seats-n.result within)
     (λ f t m is. c.take_turn.ensures.seated f t m faults is)
+
+pub returns-clause-others : goal.returns-clause-others
+returns-clause-others g c = λ i other. get_other c.args.seats.now c.args.n i c.take_turn.new.seat other
+
+pub returns-clause-left : goal.returns-clause-left
+returns-clause-left g c = λ seat is.
+    let within : c.args.n < length c.args.seats.now = omega (arith, c.requires.within, c.requires.seats) in
+    all_fall (λ s. seat_left g.A.Answerer.calls_left s) c.args.seats.now c.args.n c.take_turn.new.seat c.index-seats-n.result seat within c.take_turn.ensures.left is

@@ -1,0 +1,8 @@
+use Rattle.std.proofs.Common.{◌≡◌, ◌<◌, ℕ, Some}
+use Rattle.std.specs.Prelude.{slice_get}
+use Rattle.vod_session.specs.declared.state.LinkEnd.{LinkEnd}
+use Rattle.vod_turns.specs.declared.seats.Seat.{Seat}
+use Rattle.vod_turns.proofs.rounds.go_on.Given as goal
+
+abbrev pub invariant-loop-i : goal.invariant-loop-i
+invariant-loop-i g l = (k : ℕ) (seat : Seat g.row.C.Denot) → k < l.i → slice_get l.seats k ≡ Some seat → (end : LinkEnd) × (seat.end ≡ Some end)
