@@ -63,6 +63,16 @@ boundary_grows g has k = elim (cases_lt k (length g.bootstrap)) [
       rw is (omega (arith, boundary_next_behind g j, has.step.0)))
 ]
 
+-- and at most 600,000 ms behind it
+pub boundary_near : (g : SegmentGrid) → HasRanges g → (k : ℕ) → boundary g (k + 1) ≤ boundary g k + 600000
+boundary_near g has k = rw add-one (elim (cases_lt k (length g.bootstrap)) [
+  | inl within ↦ (let some = in_range_at 1 600000 g.bootstrap has.bootstrap k 0 within in omega (arith, boundary_next_inside g k 0 within, some.1))
+  | inr behind ↦ (
+      let j : ℕ = k - length g.bootstrap in
+      let is : k ≡ length g.bootstrap + j = omega arith in
+      rw is (omega (arith, boundary_next_behind g j, has.step.1)))
+])
+
 -- ---- numbers of cells
 
 module _ (g : SegmentGrid) (has : HasRanges g) (length cell rest duration : ℕ) (is : IsReached g length cell rest duration) where

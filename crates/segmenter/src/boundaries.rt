@@ -1,6 +1,6 @@
 //! Boundaries and numbers of cells. Times are milliseconds from a part's start.
 
-ghost use Rattle.std.specs.Prelude.{◌≡◌, ◌*◌, ◌≤◌, ◌^◌, length, sum};
+ghost use Rattle.std.specs.Prelude.{◌≡◌, ◌+◌, ◌*◌, ◌≤◌, ◌^◌, length, sum};
 ghost use Rattle.segment_model.specs.Grid.{boundary as boundary_of, cells as cells_of};
 ghost use Rattle.segmenter.specs.Reached.{IsReached};
 
@@ -12,6 +12,7 @@ pub fn boundary(grid: &Grid, k: u64) -> u64
     requires { k ≤ 2 ^ 40 }
     ensures value { result ≡ boundary_of grid.now k }
     ensures bounded { result ≤ k * 600000 }
+    ensures short { boundary_of grid.now (k + 1) ≤ boundary_of grid.now k + 600000 }
 {
     let first = grid.bootstrap.len().min(k as usize);
     let steps = k.saturating_sub(grid.bootstrap.len() as u64);

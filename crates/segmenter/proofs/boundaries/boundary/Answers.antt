@@ -1,5 +1,6 @@
-use Rattle.std.proofs.Common.{◌≤◌, ◌*◌, ap, ◌∙◌, sum, take, arith, mul-le-mul_left}
-use Rattle.segmenter.proofs.GridLemmas.{boundary_fits, front_low, front_small}
+use Rattle.std.proofs.Common.{subst, ◌≤◌, ◌*◌, ap, ◌∙◌, sum, take, arith, mul-le-mul_left}
+use Rattle.segmenter.proofs.GridLemmas.{boundary_fits, boundary_near, front_low, front_small}
+use Rattle.segmenter.specs.Ranges.{HasRanges}
 use Rattle.segmenter.proofs.boundaries.boundary.Goals as goal
 
 pub overflow_add-result : goal.overflow_add-result
@@ -15,3 +16,6 @@ returns-clause-bounded c =
     let low = front_low c.grid.inside.bootstrap.items c.min-first.result c.grid.invariant.bootstrap in
     let times : c.saturating_sub-steps.result * c.from.result ≤ c.saturating_sub-steps.result * 600000 = mul-le-mul_left c.saturating_sub-steps.result (omega (arith, c.grid.invariant.step.1)) in
     omega (arith, front, low, times)
+
+pub returns-clause-short : goal.returns-clause-short
+returns-clause-short c = boundary_near c.args.grid.now (subst HasRanges c.grid.view_is c.grid.invariant) c.args.k
