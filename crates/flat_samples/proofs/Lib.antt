@@ -7,6 +7,7 @@ pub mod CheckLemmas
 pub mod HeldLemmas
 pub mod LoadLemmas
 pub mod TurnLemmas
+pub mod RefusalLemmas
 pub mod FaultPlaces
 pub mod ShownLemmas
 pub mod Selected

@@ -8,6 +8,7 @@ ghost use Rattle.vod_source.specs.Causes.{Rose};
 ghost use Rattle.origin_model.specs.Loaded.{loaded};
 ghost use Rattle.origin_model.specs.Reads.{file_turn_reads};
 ghost use Rattle.vod_source.specs.Calls.{Came};
+ghost use Rattle.answer_laws.specs.Refusals.{IsPathRefusal};
 ghost use Rattle.flat_samples.specs.Held.{fetched, movie_due, refusal_in, is_held, HasPlaceInFile, IsPlaceOf, LiesInFile};
 ghost use Rattle.flat_samples.specs.Movies.{AreTrue, IsTurn, HeldMovie};
 
@@ -95,6 +96,7 @@ impl Movies {
         ensures content { S.content files.new ≡ S.content files.old }
         ensures later { S.faults files.old ≤ S.faults files.new }
         ensures store_failed { IsErrOf result StoreFailed → Rose (S.faults files.old) (S.faults files.new) }
+        ensures refused { IfErr result IsPathRefusal }
     {
         match self.place_of(name) {
             Some(place) => {
@@ -168,6 +170,7 @@ fn load<S: Store>(alloc: Global, files: &mut S, name: &str) -> Result<Movie, Ref
     ensures content { S.content files.new ≡ S.content files.old }
     ensures later { S.faults files.old ≤ S.faults files.new }
     ensures store_failed { IsErrOf result StoreFailed → Rose (S.faults files.old) (S.faults files.new) }
+    ensures refused { IfErr result IsPathRefusal }
 {
     match fetch(alloc, files, name) {
         Ok(found) => movie_of(alloc, name, found),
@@ -184,6 +187,7 @@ fn fetch<S: Store>(alloc: Global, files: &mut S, name: &str) -> Result<MovieByte
     ensures content { S.content files.new ≡ S.content files.old }
     ensures later { S.faults files.old ≤ S.faults files.new }
     ensures store_failed { IsErrOf result StoreFailed → Rose (S.faults files.old) (S.faults files.new) }
+    ensures refused { IfErr result IsPathRefusal }
 {
     let place = match find(alloc, files, name) {
         Ok(place) => place,

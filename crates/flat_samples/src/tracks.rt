@@ -1,6 +1,6 @@
 //! The asked tracks of a piece.
 
-ghost use Rattle.std.specs.Prelude.{◌≡◌, ◌&&◌, ◌⊎◌, option_map, IfOk, IfSome};
+ghost use Rattle.std.specs.Prelude.{◌≡◌, ◌&&◌, ◌⊎◌, option_map, IfOk, IfSome, IfErr};
 ghost use Rattle.vod_types.specs.declared.refusal.Refusal.TheVariants.{NoMemory};
 ghost use Rattle.vod_types.specs.Results.{Answers};
 ghost use Rattle.vod_types.specs.Tracks.{exposed_track, same_kind};
@@ -12,6 +12,7 @@ ghost use Rattle.mp4_tracks.specs.Views.{good_of, IsViewOf};
 ghost use Rattle.mp4_tracks.specs.Edits.{edit_of_view, IsEditOf};
 ghost use Rattle.origin_model.specs.Loaded.{asked_edit, asked_track, file_has, refusal_of_track, shown_edit, shown_track};
 ghost use Rattle.origin_model.specs.Writable.{IsSoundPiece};
+ghost use Rattle.answer_laws.specs.Refusals.{IsPathRefusal};
 ghost use Rattle.flat_samples.specs.Checks.{checked_in, checked_view, AreSound, IsSound};
 ghost use Rattle.flat_samples.specs.Shown.{edit_in_file, is_there, view_in_file, HasTrackPlace};
 
@@ -50,6 +51,7 @@ pub fn check<'a>(
     ensures audio_samples { IfOk result (λ c. IfSome c.audio (λ v. v.samples ≡ sample_count (tables_of v.tables))) }
     ensures fourcc { IfOk result (λ c. IfSome c.video (λ v. v.fourcc ≡ entry_type v.entry.now)) }
     ensures whole { IfOk result (λ c. IsSoundPiece asked (checked_view piece.now c)) }
+    ensures refused { IfErr result IsPathRefusal }
 {
     let video = match asked_view(alloc, piece, movie, Kind::Video, asked.video) {
         Ok(video) => video,

@@ -38,6 +38,9 @@ use Rattle.flat_segments.specs.declared.needed.Needed.{Needed}
 use Rattle.flat_segments.specs.declared.needed.NeededFile.{NeededFile}
 use Rattle.flat_segments.specs.declared.rows.FlatRows.{FlatRows}
 use Rattle.flat_segments.specs.declared.segment.Wanted.{Wanted}
+use Rattle.flat_segments.specs.declared.segment.Wanted.TheVariants.{Whole, Iframe}
+use Rattle.answer_laws.proofs.Segments.{iframe_may, rows_may}
+use Rattle.answer_laws.proofs.Steps.{May}
 use Rattle.vod_source.proofs.CallLemmas.{refusal-not_failed, logs_all, logs_none}
 use Rattle.flat_segments.proofs.LoneIframes.{wanted_not_failed, wanted_writable}
 use Rattle.flat_segments.proofs.SoundRows.{writable_by}
@@ -402,3 +405,9 @@ module _ (known : Files) (edits : Bool) (g : SegmentGrid) (align : Bool) (asked 
         (subst (λ (i : ℕ). Answers flat_plan r (wanted_rows number wanted asked all (lone_cell cell.grid (timeline (map source_piece all)) i))) (sym (cell_number known edits g align asked t number wanted part k))
         (subst (λ (grid : PartGrid). Answers flat_plan r (wanted_rows number wanted asked all (lone_cell grid (timeline (map source_piece all)) k))) (grid ∙ grid_of_open k)
         (answers all here.answered.needed)))
+
+-- ---- why a segment is refused
+
+pub wanted_may : (number : ℕ) (wanted : Wanted) (asked : Asked) (pieces : List CheckedPiece) (rows : TrackRows) → May (wanted_rows number wanted asked pieces rows)
+wanted_may number (Whole form) asked pieces rows = rows_may number form asked pieces rows
+wanted_may number (Iframe index) asked pieces rows = iframe_may number index asked pieces rows

@@ -1,5 +1,5 @@
 -- The body of a segment, and where it ends; this project's own.
-use Rattle.std.specs.Prelude.{ℕ, Bool, List, ◌++◌, flat_map, Option, Some, None, option_map}
+use Rattle.std.specs.Prelude.{◌≡◌, ℕ, ◌%◌, Bool, List, ◌++◌, length, flat_map, Option, Some, None, option_map}
 use Rattle.vod_types.specs.declared.segments.Form.{Form}
 use Rattle.vod_types.specs.SegmentRows.{SegmentRows, sample_bytes}
 use Rattle.media_model.specs.Fragment.{fragment}
@@ -24,6 +24,10 @@ cut_of (bad_nal file sample) = Some (file, sample)
 
 abbrev pub flat_shown : FlatBody → List ℕ × Option (ℕ × ℕ)
 flat_shown body = (body.bytes.items, body.cut)
+
+-- whole packets of 188 bytes, as a transport stream has them
+abbrev pub IsInPackets : FlatBody → Type 0
+IsInPackets body = length body.bytes.items % 188 ≡ 0
 
 -- the bytes of a segment with its cut
 abbrev pub bytes_with_cut : List ℕ × End → List ℕ × Option (ℕ × ℕ)

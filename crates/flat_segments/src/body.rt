@@ -1,6 +1,6 @@
 //! The body of a segment.
 
-ghost use Rattle.std.specs.Prelude.{◌≡◌, ◌≤◌, Ok, IfSome, IsErrOf, fold, map, max};
+ghost use Rattle.std.specs.Prelude.{◌≡◌, ◌≤◌, Ok, IfErr, IfOk, IfSome, IsErrOf, fold, map, max};
 ghost use Rattle.vod_types.specs.declared.refusal.Refusal.TheVariants.{StoreFailed};
 ghost use Rattle.vod_types.specs.declared.segments.Form.TheVariants.{Fmp4, Ts};
 ghost use Rattle.vod_source.specs.Causes.{Rose};
@@ -9,7 +9,8 @@ ghost use Rattle.origin_model.specs.Bodies.{segment_body as segment_body_of};
 ghost use Rattle.fmp4_writer.specs.Progress as fragments;
 ghost use Rattle.ts_writer.specs.Conditions as streams;
 ghost use Rattle.ts_writer.specs.Progress.{segment_begun};
-ghost use Rattle.flat_segments.specs.Bodies.{body_reads, bytes_with_cut, flat_shown, fragment_reads, fragment_shown, stream_reads, stream_shown};
+ghost use Rattle.answer_laws.specs.Refusals.{IsPathRefusal};
+ghost use Rattle.flat_segments.specs.Bodies.{IsInPackets, body_reads, bytes_with_cut, flat_shown, fragment_reads, fragment_shown, stream_reads, stream_shown};
 ghost use Rattle.flat_segments.specs.Segments.{flat_plan, flat_rows_view, largest_of, AreWritableBy};
 
 use crate::rows::FlatRows;
@@ -44,6 +45,8 @@ pub fn segment_body<S: Store>(
     ensures content { S.content files.new ≡ S.content files.old }
     ensures later { S.faults files.old ≤ S.faults files.new }
     ensures store_failed { IsErrOf result StoreFailed → Rose (S.faults files.old) (S.faults files.new) }
+    ensures refused { IfErr result IsPathRefusal }
+    ensures packets { form ≡ Ts → IfOk result IsInPackets }
 {
     match form {
         Form::Ts => stream(alloc, files, asked, rows),
@@ -64,6 +67,7 @@ fn fragment<S: Store>(
     ensures content { S.content files.new ≡ S.content files.old }
     ensures later { S.faults files.old ≤ S.faults files.new }
     ensures store_failed { IsErrOf result StoreFailed → Rose (S.faults files.old) (S.faults files.new) }
+    ensures refused { IfErr result IsPathRefusal }
 {
     let mut rows = rows;
     let mut sink = VecSink::new(Vec::new(alloc));
@@ -90,6 +94,8 @@ fn stream<S: Store>(
     ensures content { S.content files.new ≡ S.content files.old }
     ensures later { S.faults files.old ≤ S.faults files.new }
     ensures store_failed { IsErrOf result StoreFailed → Rose (S.faults files.old) (S.faults files.new) }
+    ensures refused { IfErr result IsPathRefusal }
+    ensures packets { IfOk result IsInPackets }
 {
     match TsSegment::new(alloc, largest(&rows), asked, rows.hevc) {
         Ok(segment) => written(alloc, files, segment, rows),
@@ -111,6 +117,8 @@ fn written<S: Store>(
     ensures content { S.content files.new ≡ S.content files.old }
     ensures later { S.faults files.old ≤ S.faults files.new }
     ensures store_failed { IsErrOf result StoreFailed → Rose (S.faults files.old) (S.faults files.new) }
+    ensures refused { IfErr result IsPathRefusal }
+    ensures packets { IfOk result IsInPackets }
 {
     let mut rows = rows;
     let mut sink = VecSink::new(Vec::new(alloc));

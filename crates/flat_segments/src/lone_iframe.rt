@@ -12,6 +12,7 @@ ghost use Rattle.vod_source.specs.Causes.{Rose};
 ghost use Rattle.origin_model.specs.Iframes.{checked_iframe as checked_iframe_of, planned_iframe};
 ghost use Rattle.origin_model.specs.Loaded.{CheckedPiece};
 ghost use Rattle.flat_samples.specs.Rows.{part_rows, timed_view, ArePlacedRows, IsPlacedRow};
+ghost use Rattle.answer_laws.specs.Refusals.{IsPathRefusal};
 ghost use Rattle.flat_segments.specs.Needed.{AreTyped};
 ghost use Rattle.flat_segments.specs.Planned.{cutting_of, segment_turns, IsNthSync};
 ghost use Rattle.flat_segments.specs.RowFaults.{EndsLow};
@@ -45,6 +46,7 @@ pub fn iframe_row<S: Store>(
     ensures content { S.content files.new ≡ S.content files.old }
     ensures later { S.faults files.old ≤ S.faults files.new }
     ensures store_failed { IsErrOf result StoreFailed → Rose (S.faults files.old) (S.faults files.new) }
+    ensures refused { IfErr result IsPathRefusal }
 {
     let asked = Asked {
         video: Some(video),

@@ -15,6 +15,7 @@ ghost use Rattle.origin_model.specs.Loaded.{CheckedPiece};
 ghost use Rattle.origin_model.specs.Writable.{IsSoundPiece};
 ghost use Rattle.flat_samples.specs.Checks.{checked_view, AreSound};
 ghost use Rattle.flat_samples.specs.Movies.{AreTrue};
+ghost use Rattle.answer_laws.specs.Refusals.{IsPathRefusal};
 ghost use Rattle.flat_segments.specs.Needed.{IsAdded, IsLook, AreOfPieces, AreLooks, stops};
 ghost use Rattle.flat_samples.specs.Rows.{timed_view, part_rows, ArePlacedRows};
 ghost use Rattle.flat_segments.specs.Cells.{part_grid_of};
@@ -133,6 +134,7 @@ fn look<S: Store>(
     ensures content { S.content files.new ≡ S.content files.old }
     ensures later { S.faults files.old ≤ S.faults files.new }
     ensures store_failed { IsErrOf result StoreFailed → Rose (S.faults files.old) (S.faults files.new) }
+    ensures refused { IfErr result IsPathRefusal }
 {
     match movies.turn(alloc, files, piece.name.as_str()) {
         Ok(()) => {}
@@ -167,6 +169,7 @@ pub fn needed_of<S: Store>(
     ensures content { S.content files.new ≡ S.content files.old }
     ensures later { S.faults files.old ≤ S.faults files.new }
     ensures store_failed { IsErrOf result StoreFailed → Rose (S.faults files.old) (S.faults files.new) }
+    ensures refused { IfErr result IsPathRefusal }
 {
     let mut movies = Movies::new(alloc);
     let mut needed = Needed {

@@ -14,6 +14,7 @@ ghost use Rattle.origin_model.specs.Plans.{planned_segment};
 ghost use Rattle.origin_model.specs.Sources.{is_declared, source_piece};
 ghost use Rattle.vod_source.specs.Calls.{Came};
 ghost use Rattle.flat_samples.specs.Rows.{part_rows, ArePlacedRows};
+ghost use Rattle.answer_laws.specs.Refusals.{IsPathRefusal};
 ghost use Rattle.flat_segments.specs.Cells.{part_grid_of};
 ghost use Rattle.flat_segments.specs.Needed.{AreNeeded, AreOfPart, AreTyped};
 ghost use Rattle.flat_segments.specs.Planned.{cutting_of, form_of, piece_ends_after, place_among, planned_wanted, segment_turns, wanted_rows as wanted_rows_of};
@@ -58,6 +59,7 @@ pub fn segment_rows<S: Store>(
     ensures content { S.content files.new ≡ S.content files.old }
     ensures later { S.faults files.old ≤ S.faults files.new }
     ensures store_failed { IsErrOf result StoreFailed → Rose (S.faults files.old) (S.faults files.new) }
+    ensures refused { IfErr result IsPathRefusal }
 {
     wanted_segment(alloc, files, cut, asked, number, Wanted::Whole(form))
 }
@@ -78,6 +80,7 @@ pub(crate) fn wanted_segment<S: Store>(
     ensures content { S.content files.new ≡ S.content files.old }
     ensures later { S.faults files.old ≤ S.faults files.new }
     ensures store_failed { IsErrOf result StoreFailed → Rose (S.faults files.old) (S.faults files.new) }
+    ensures refused { IfErr result IsPathRefusal }
 {
     if is_declared(parts_of(cut.timeline)) {
         declared_segment(alloc, files, cut, asked, number, wanted)
@@ -103,6 +106,7 @@ fn declared_segment<S: Store>(
     ensures content { S.content files.new ≡ S.content files.old }
     ensures later { S.faults files.old ≤ S.faults files.new }
     ensures store_failed { IsErrOf result StoreFailed → Rose (S.faults files.old) (S.faults files.new) }
+    ensures refused { IfErr result IsPathRefusal }
 {
     let counts = match counts_of(alloc, cut.grid, parts_of(cut.timeline)) {
         Ok(counts) => counts,
@@ -138,6 +142,7 @@ fn open_segment<S: Store>(
     ensures content { S.content files.new ≡ S.content files.old }
     ensures later { S.faults files.old ≤ S.faults files.new }
     ensures store_failed { IsErrOf result StoreFailed → Rose (S.faults files.old) (S.faults files.new) }
+    ensures refused { IfErr result IsPathRefusal }
 {
     let (part, pieces) = part_at(cut.timeline, 0);
     let needed = match needed_of(alloc, files, cut.edits, asked, pieces, None) {
@@ -179,6 +184,7 @@ fn place_among(counts: &[u64], number: u32) -> Result<(u32, u64), Refusal>
     ensures not_failed { IfErr result (λ refusal. refusal ≢ StoreFailed) }
     ensures part { IfOk result (λ place. place.0 < length counts.now) }
     ensures cell { IfOk result (λ place. place.1 < 100000) }
+    ensures refused { IfErr result IsPathRefusal }
 {
     let all = sum_of(counts);
     if all > 100_000 {
@@ -233,6 +239,7 @@ fn cell_rows(
     ensures not_failed { IfErr result (λ refusal. refusal ≢ StoreFailed) }
     ensures answers { (pieces : List CheckedPiece) → AreNeeded pieces needed →
         Answers flat_plan result (wanted_rows_of number wanted asked pieces (lone_cell (part_grid_of cells.now) (timeline (map source_piece pieces)) k)) }
+    ensures refused { IfErr result IsPathRefusal }
 {
     let Needed { files, rows } = needed;
     match cells.rows_of(alloc, &rows, k) {

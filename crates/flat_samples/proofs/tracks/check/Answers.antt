@@ -5,6 +5,9 @@ use Rattle.mp4_tracks.specs.Views.{good_of}
 use Rattle.mp4_tracks.specs.Edits.{edit_of_view}
 use Rattle.flat_samples.specs.Movies.{HeldMovie}
 use Rattle.flat_samples.proofs.CheckLemmas.{checked-ok, checked-no_video, checked-no_video_edit, checked-no_audio, checked-no_audio_edit, checked-whole}
+use Rattle.vod_types.specs.declared.tracks.Kind.TheVariants.{Video, Audio}
+use Rattle.answer_laws.proofs.Due.{due_may}
+use Rattle.answer_laws.proofs.Segments.{edit_may, track_may}
 use Rattle.flat_samples.proofs.tracks.check.Goals as goal
 
 pub returns-in-Err-clause-answers : goal.returns-in-Err-clause-answers
@@ -37,3 +40,17 @@ returns-in-Ok-asked_edit-2-clause-answers c =
 
 pub returns-in-Ok-asked_edit-2-clause-whole : goal.returns-in-Ok-asked_edit-2-clause-whole
 returns-in-Ok-asked_edit-2-clause-whole c = checked-whole c.args.piece.now c.args.movie.now.movie c.args.edits c.args.asked _ (returns-in-Ok-asked_edit-2-clause-answers c)
+
+-- ---- why it is refused
+
+pub returns-in-Err-clause-refused : goal.returns-in-Err-clause-refused
+returns-in-Err-clause-refused c = due_may _ (track_may c.args.piece.now c.args.movie.now.movie Video c.args.asked.video) c.in-Err.refusal c.in-Err.ensures.answers
+
+pub returns-in-Err-asked_edit-clause-refused : goal.returns-in-Err-asked_edit-clause-refused
+returns-in-Err-asked_edit-clause-refused c = due_may _ (edit_may c.args.edits c.args.piece.now c.args.movie.now.movie Video c.args.asked.video) c.in-Err-asked_edit.refusal c.in-Err-asked_edit.ensures
+
+pub returns-in-Err-asked_view-clause-refused : goal.returns-in-Err-asked_view-clause-refused
+returns-in-Err-asked_view-clause-refused c = due_may _ (track_may c.args.piece.now c.args.movie.now.movie Audio c.args.asked.audio) c.in-Err-asked_view.refusal c.in-Err-asked_view.ensures.answers
+
+pub returns-in-Err-asked_edit-2-clause-refused : goal.returns-in-Err-asked_edit-2-clause-refused
+returns-in-Err-asked_edit-2-clause-refused c = due_may _ (edit_may c.args.edits c.args.piece.now c.args.movie.now.movie Audio c.args.asked.audio) c.in-Err-asked_edit-2.refusal c.in-Err-asked_edit-2.ensures

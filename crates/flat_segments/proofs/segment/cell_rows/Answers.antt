@@ -2,7 +2,9 @@ use Rattle.std.proofs.Common.{subst, sym}
 use Rattle.flat_samples.specs.Rows.{part_rows, ArePlacedRows}
 use Rattle.flat_segments.specs.Cells.{part_grid_of}
 use Rattle.flat_segments.proofs.PlacedRows.{placed_cell}
-use Rattle.flat_segments.proofs.SegmentCalls.{cell_answers, cell_not_failed, cell_writable}
+use Rattle.answer_laws.proofs.Due.{answers_may}
+use Rattle.flat_segments.specs.Segments.{flat_plan}
+use Rattle.flat_segments.proofs.SegmentCalls.{cell_answers, cell_not_failed, cell_writable, wanted_may}
 use Rattle.flat_segments.proofs.segment.cell_rows.Goals as goal
 
 pub wanted_rows-requires-clause-placed : goal.wanted_rows-requires-clause-placed
@@ -28,3 +30,8 @@ pub returns-in-Ok-clause-answers : goal.returns-in-Ok-clause-answers
 returns-in-Ok-clause-answers c =
     cell_answers c.args.number c.args.wanted c.args.asked (part_grid_of c.args.cells.now) c.args.k c.args.needed (part_rows c.in-Ok.rows) c.in-Ok.ensures.rows c.wanted_rows.result
     c.wanted_rows.ensures.answers
+
+pub returns-in-Ok-clause-refused : goal.returns-in-Ok-clause-refused
+returns-in-Ok-clause-refused c =
+    answers_may flat_plan _ (wanted_may c.args.number c.args.wanted c.args.asked c.requires.of.pieces.1.checked (part_rows c.in-Ok.rows)) c.wanted_rows.result
+    (c.wanted_rows.ensures.answers c.requires.of.pieces.1.checked (sym c.requires.of.pieces.1.needed.files))
