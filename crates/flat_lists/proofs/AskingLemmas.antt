@@ -15,7 +15,7 @@ use Rattle.vod_source.specs.Stored.{Files, Read, file_named, size_of, bytes_at}
 use Rattle.vod_source.specs.Told.{told_with}
 use Rattle.list_model.specs.Path.{is_local}
 use Rattle.origin_model.specs.Requests.{Setup, asking_of, mapping_by, mapping_file}
-use Rattle.flat_lists.specs.declared.asking.Asking.{Asking}
+use Rattle.flat_lists.specs.declared.subject.Asking.{Asking}
 use Rattle.flat_lists.specs.Asked.{asking_view}
 use Rattle.vod_source.specs.Calls.{Came}
 use Rattle.flat_lists.specs.Mapped.{mapping_file_reads}

@@ -248,7 +248,7 @@ module _ (o : Setup) (a : Asking) where
 
 -- ---- few cells, or too many
 
-few_enough : (cells : ℕ) → cells ≤ 100000 → few_cells cells ≡ Ok tt
+pub few_enough : (cells : ℕ) → cells ≤ 100000 → few_cells cells ≡ Ok tt
 unfolding few_cells
 few_enough cells few = ap (λ b. unless (then_some b (TooManySegments cells))) (le-ltb 100000 cells few)
 

@@ -26,3 +26,6 @@ pub mod RowTimes
 pub mod RepsFound
 pub mod RepLemmas
 pub mod SequenceReps
+pub mod PeriodLemmas
+pub mod PeriodsFound
+pub mod PeriodsDue

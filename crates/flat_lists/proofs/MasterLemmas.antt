@@ -2,6 +2,7 @@
 use Rattle.std.proofs.Common.{◌≡◌, ℕ, ◌+◌, Bool, not, cond, List, [], ◌∷◌, ◌++◌, map, take, Option, IfOk, IfErr, Result, Ok, Err, refl, sym, ap, ap₂, ◌∙◌, subst}
 use Rattle.std.specs.Prelude.{flat_map, is_err, if◌then◌else◌}
 use Rattle.std.specs.List.{position_or_len}
+use Rattle.std.specs.Result.{result_unwrap_or}
 use Rattle.std.proofs.lemmas.List.{map-append}
 use Rattle.vod_types.specs.declared.paths.Leaf.TheVariants.{Master}
 use Rattle.vod_types.specs.declared.refusal.Refusal.{Refusal}
@@ -82,6 +83,17 @@ module _ (o : Setup) (a : Asking) where
     where
       by_list : (r : Result (List ShownSequence) Refusal) → (r >>= λ found. Ok (master_text o a found)) ≡ ((r >>= λ ss. Ok (map (shown_by a.mapping) ss)) >>= λ shown. Ok (text_of shown))
       by_list (Ok ss) = ap Ok (text-is ss)
+      by_list (Err e) = refl
+
+  -- the variants of the sequences that are shown, none where one is refused
+  pub variants-shown : map (variant_of o a) (result_unwrap_or (shown_sequences o a) []) ≡ map variant_by (result_unwrap_or (all_shown o a) [])
+  unfolding shown_sequences
+  variants-shown =
+      by_list (each_in_turn (shown_sequence o a) (sequence_numbers o a))
+      ∙ ap (λ (r : Result (List Shown) Refusal). map variant_by (result_unwrap_or r [])) (sym (each-mapped (shown_sequence o a) (shown_by a.mapping) (sequence_numbers o a)))
+    where
+      by_list : (r : Result (List ShownSequence) Refusal) → map (variant_of o a) (result_unwrap_or r []) ≡ map variant_by (result_unwrap_or (r >>= λ ss. Ok (map (shown_by a.mapping) ss)) [])
+      by_list (Ok ss) = variants-are ss
       by_list (Err e) = refl
 
   -- ---- the reads

@@ -27,10 +27,10 @@ slice_mapped h (x ∷ xs) (suc k) = slice_mapped h xs k
 
 module _ (files : Files) (edits : Bool) (t : Timeline) where
   -- a part that is found stands in the timeline
-  abbrev IsAt : List Part → ℕ → FoundPart → Type 0
+  abbrev pub IsAt : List Part → ℕ → FoundPart → Type 0
   IsAt xs k fp = (rest : List Part) × ((drop k xs ≡ fp.0 ∷ rest) × (part_found files edits (part_pieces t fp.0) ≡ Ok fp.1))
 
-  found_at : (xs : List Part) (fs : List FoundPart) (k : ℕ) (fp : FoundPart) → each_in_turn (found_in files edits t) xs ≡ Ok fs → slice_get fs k ≡ Some fp → IsAt xs k fp
+  pub found_at : (xs : List Part) (fs : List FoundPart) (k : ℕ) (fp : FoundPart) → each_in_turn (found_in files edits t) xs ≡ Ok fs → slice_get fs k ≡ Some fp → IsAt xs k fp
   found_at [] fs k fp e at =
       let none : [] ≡ fs = cc in
       let nowhere : slice_get [] k ≡ Some fp = ap (λ (fs : List FoundPart). slice_get fs k) none ∙ at in absurd cc

@@ -183,6 +183,22 @@ module _ (o : Setup) (a : Asking) (sequence : ℕ) where
   names_of : (r : Result Timeline Refusal) → timeline_asked o a sequence ≡ r → first_names o a sequence ≡ map (λ piece. piece.name) (pieces_or_none (r >>= λ t. Ok (take 1 t.pieces)))
   names_of r e = ap (λ (r : Result Timeline Refusal). map (λ (piece : Piece). piece.name) (pieces_or_none (r >>= λ t. Ok (take 1 t.pieces)))) e
 
+  -- it has the number of the sequence
+  pub shown-numbered : (s : Shown) → shown_due o a sequence ≡ Ok s → s.sequence ≡ sequence
+  shown-numbered s e = by_timeline (timeline_asked o a sequence) (sym (due_of (timeline_asked o a sequence) refl) ∙ e)
+    where
+      by_first : (r : Result (Asked × CheckedPiece) Refusal) → ((r >>= λ first. Ok (numbered sequence first)) >>= show) ≡ Ok s → s.sequence ≡ sequence
+      by_first (Ok first) is = let same : shown_by a.mapping (numbered sequence first) ≡ s = cc in sym (ap (λ (s : Shown). s.sequence) same)
+      by_first (Err d) is = absurd cc
+
+      by_piece : (found : Option Piece) → ((ok_or found (NothingSelected sequence) >>= of_first) >>= show) ≡ Ok s → s.sequence ≡ sequence
+      by_piece None is = absurd cc
+      by_piece (Some piece) is = by_first (checked_first o a piece) is
+
+      by_timeline : (r : Result Timeline Refusal) → ((r >>= of_timeline) >>= show) ≡ Ok s → s.sequence ≡ sequence
+      by_timeline (Ok t) is = by_piece (slice_get t.pieces 0) is
+      by_timeline (Err d) is = absurd cc
+
   no_reads : (cache : Cache) → (turns o.files cache []).reads ≡ []
   unfolding turns
   no_reads cache = refl

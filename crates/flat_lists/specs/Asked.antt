@@ -4,7 +4,7 @@ use Rattle.vod_types.specs.Settled.{Settled}
 use Rattle.vod_source.specs.Stored.{Files}
 use Rattle.origin_model.specs.Requests as requests
 use Rattle.origin_model.specs.Requests.{Setup}
-use Rattle.flat_lists.specs.declared.asking.Asking.{Asking}
+use Rattle.flat_lists.specs.declared.subject.Asking.{Asking}
 
 abbrev pub setup_of : Settled → List ℕ → Files → Setup
 setup_of settings root files = record { settings = settings; root = root; files = files }

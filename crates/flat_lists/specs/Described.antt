@@ -22,6 +22,10 @@ sequence_view f = record { number = f.number; timeline = f.timeline; parts = map
 abbrev pub periods_due : Setup → Asking → List CheckedSequence → List Period
 periods_due o a ss = map (period_of o a ss) (enumerate_from 0 (first_parts o a ss))
 
+-- the same of at most 100,000 cells together
+abbrev pub few_periods : Setup → Asking → List CheckedSequence → Result (List Period) Refusal
+few_periods o a ss = few_cells (sum_by (sequence_cells o a) ss) >> Ok (periods_due o a ss)
+
 -- the text over checked sequences, at most 100,000 cells together
 abbrev pub described_due : Setup → Asking → List CheckedSequence → Result (List ℕ) Refusal
 described_due o a ss = few_cells (sum_by (sequence_cells o a) ss) >> Ok (manifest (grid_in_use o a).step (periods_due o a ss))

@@ -14,3 +14,4 @@ pub mod Described
 pub mod Counted
 pub mod CountedCells
 pub mod Written
+pub mod ClipFacts

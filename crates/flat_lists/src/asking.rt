@@ -1,4 +1,4 @@
-//! What a request is about.
+//! What a request is about, by its path and the file of its mapping.
 
 ghost use Rattle.std.specs.Prelude.{◌≡◌, ◌≤◌, Ok, length, unwrap_or, IfSome, IfOk, IfErr, IsErrOf, Some};
 ghost use Rattle.std.specs.Int.{IsInRange};
@@ -12,57 +12,20 @@ ghost use Rattle.clip_model.specs.Mapping.{local_mapping as local_mapping_of};
 ghost use Rattle.list_model.specs.Path.{is_local as is_local_place};
 ghost use Rattle.origin_model.specs.Reads.{mapping_reads_by};
 ghost use Rattle.origin_model.specs.Requests.{asking_of as asking_of_ask, mapping_by as mapping_by_target, mapping_file as mapping_of_file, target_names};
+ghost use Rattle.answer_laws.specs.Refusals.{IsPathRefusal};
 ghost use Rattle.flat_lists.specs.Asked.{asking_view, setup_of};
 ghost use Rattle.vod_source.specs.Calls.{Came};
 ghost use Rattle.flat_lists.specs.Mapped.{mapping_file_reads};
 
+use crate::subject::Asking;
 use clip_map::{Mapping, read_mapping};
-use segmenter::Grid;
-use seq_timeline::{Timeline, store_name, timeline};
+use seq_timeline::store_name;
 use std::alloc::Global;
 use vod_source::{ReadFault, Store, read_range};
-use vod_types::{Ask, Name, Place, Refusal, Settings, Target, TrackList, Window};
+use vod_types::{Ask, Name, Place, Refusal, Target, TrackList};
 
 // The most bytes that a mapping file has.
 const LONGEST_MAPPING: u64 = 1_048_576;
-
-/// The mapping of a request, its window and its tracks.
-#[derive(Debug, Drop)]
-pub struct Asking {
-    pub mapping: Mapping,
-    pub window: Window,
-    pub tracks: Option<TrackList>,
-}
-
-impl Asking {
-    ghost use Rattle.vod_types.specs.Results.{Answers};
-    ghost use Rattle.std.specs.Prelude.{◌≢◌};
-    ghost use Rattle.clip_model.specs.Timeline.{timeline_of};
-    ghost use Rattle.segment_model.specs.Grid.{grid_of};
-
-    /// The timeline of a sequence within the window.
-    pub fn timeline(&self, alloc: Global, root: &str, sequence: u32) -> Result<Timeline, Refusal>
-        ensures answers { Answers (λ t. t) result (timeline_of root.now self.now.mapping sequence self.now.window self.now.tracks) }
-        ensures not_failed { IfErr result (λ refusal. refusal ≢ StoreFailed) }
-    {
-        timeline(
-            alloc,
-            root,
-            &self.mapping,
-            sequence,
-            self.window,
-            self.tracks.as_ref(),
-        )
-    }
-
-    /// How the mapping and the settings cut the parts. The only refusal is `NoMemory`.
-    pub fn grid(&self, alloc: Global, settings: &Settings) -> Result<Grid, Refusal>
-        ensures grid { IfOk result (λ grid. grid ≡ grid_of settings.now self.now.mapping.segment_ms) }
-        ensures only { IfErr result (λ refusal. refusal ≡ NoMemory) }
-    {
-        Grid::new(alloc, settings, self.mapping.segment_ms())
-    }
-}
 
 /// What a request is about: a local target is a mapping of its own, without a call on the store, and a mapped one names a
 /// mapping file below `root`, which is read whole.
@@ -83,6 +46,7 @@ pub fn asking_of<S: Store>(
     ensures content { S.content files.new ≡ S.content files.old }
     ensures later { S.faults files.old ≤ S.faults files.new }
     ensures store_failed { IsErrOf result StoreFailed → Rose (S.faults files.old) (S.faults files.new) }
+    ensures refused { IfErr result IsPathRefusal }
 {
     match mapping_by(alloc, files, root, ask.place, ask.target, ask.tracks) {
         Ok(mapping) => Ok(Asking {
@@ -111,6 +75,7 @@ fn mapping_by<S: Store>(
     ensures content { S.content files.new ≡ S.content files.old }
     ensures later { S.faults files.old ≤ S.faults files.new }
     ensures store_failed { IsErrOf result StoreFailed → Rose (S.faults files.old) (S.faults files.new) }
+    ensures refused { IfErr result IsPathRefusal }
 {
     if is_local(place) {
         return local_mapping(alloc, target, tracks);
@@ -176,6 +141,7 @@ fn mapping_file<S: Store>(
     ensures content { S.content files.new ≡ S.content files.old }
     ensures later { S.faults files.old ≤ S.faults files.new }
     ensures store_failed { IsErrOf result StoreFailed → Rose (S.faults files.old) (S.faults files.new) }
+    ensures refused { IfErr result IsPathRefusal }
 {
     match store_name(alloc, root, name) {
         Ok(stored) => stored_mapping(alloc, files, stored),
@@ -190,6 +156,7 @@ fn stored_mapping<S: Store>(alloc: Global, files: &mut S, name: Name) -> Result<
     ensures content { S.content files.new ≡ S.content files.old }
     ensures later { S.faults files.old ≤ S.faults files.new }
     ensures store_failed { IsErrOf result StoreFailed → Rose (S.faults files.old) (S.faults files.new) }
+    ensures refused { IfErr result IsPathRefusal }
 {
     match files.size(name.as_str()) {
         Ok(Some(size)) => sized_mapping(alloc, files, name.as_str(), size),
@@ -211,6 +178,7 @@ fn sized_mapping<S: Store>(
     ensures content { S.content files.new ≡ S.content files.old }
     ensures later { S.faults files.old ≤ S.faults files.new }
     ensures store_failed { IsErrOf result StoreFailed → Rose (S.faults files.old) (S.faults files.new) }
+    ensures refused { IfErr result IsPathRefusal }
 {
     if size > LONGEST_MAPPING {
         return Err(Refusal::MappingTooLong { size });

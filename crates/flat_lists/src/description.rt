@@ -9,15 +9,20 @@ ghost use Rattle.vod_source.specs.Causes.{Rose};
 ghost use Rattle.segment_model.specs.Grid.{grid_of};
 ghost use Rattle.list_model.specs.Manifest.{manifest};
 ghost use Rattle.origin_model.specs.Requests.{Setup, grid_in_use};
+ghost use Rattle.answer_laws.specs.Refusals.{IsPathRefusal};
 ghost use Rattle.flat_lists.specs.Asked.{asking_view, setup_of};
 ghost use Rattle.flat_lists.specs.CountedCells.{all_cells as all_cells_of};
 ghost use Rattle.flat_lists.specs.Described.{AreFound, described_due, periods_due, sequence_view};
 ghost use Rattle.flat_lists.specs.Listings.{leaf_turns, description_due};
-ghost use Rattle.flat_lists.specs.LookedSequences.{IsLookedSequence, SequenceFound};
+ghost use Rattle.flat_lists.specs.LookedSequences.{SequenceFound};
+ghost use Rattle.flat_lists.specs.Written.{IsOfMapping};
 
-use crate::asking::Asking;
 use crate::counted_cells::all_cells;
 use crate::looked_sequences::{LookedSequence, look_at_sequences};
+use crate::periods::periods;
+use crate::reps::Writing;
+use crate::subject::Asking;
+use dash_mpd::mpd;
 use segmenter::Grid;
 use std::alloc::Global;
 use vod_source::Store;
@@ -41,6 +46,7 @@ pub fn presentation_description<S: Store>(
     ensures content { S.content files.new ≡ S.content files.old }
     ensures later { S.faults files.old ≤ S.faults files.new }
     ensures store_failed { IsErrOf result StoreFailed → Rose (S.faults files.old) (S.faults files.new) }
+    ensures refused { IfErr result IsPathRefusal }
 {
     match look_at_sequences(alloc, files, settings, root, asking) {
         Ok(looked) => described(alloc, settings, asking, &looked),
@@ -55,11 +61,12 @@ fn described(
     asking: &Asking,
     looked: &[LookedSequence],
 ) -> Result<Vec<u8>, Refusal>
-    requires each { All IsLookedSequence looked.now }
+    requires each { All (IsOfMapping asking.now.mapping) looked.now }
     requires few { length looked.now ≤ 32 }
     ensures text { (o : Setup) (fs : List SequenceFound) → o.settings ≡ settings.now → AreFound o (asking_view asking.now) fs looked.now →
         Answers (λ text. text.items) result (described_due o (asking_view asking.now) (map sequence_view fs)) }
     ensures not_failed { IfErr result (λ refusal. refusal ≢ StoreFailed) }
+    ensures refused { IfErr result IsPathRefusal }
 {
     let grid = match asking.grid(alloc, settings) {
         Ok(grid) => grid,
@@ -74,18 +81,28 @@ fn described(
 
 // The text over sequences with few cells. The only refusal is `NoMemory`.
 fn written(
-    _alloc: Global,
-    _settings: &Settings,
-    _asking: &Asking,
-    _grid: &Grid,
-    _looked: &[LookedSequence],
+    alloc: Global,
+    settings: &Settings,
+    asking: &Asking,
+    grid: &Grid,
+    looked: &[LookedSequence],
 ) -> Result<Vec<u8>, Refusal>
-    requires each { All IsLookedSequence _looked.now }
-    requires cells { all_cells_of _grid.now _looked.now ≤ 100000 }
-    requires grid { _grid.now ≡ grid_of _settings.now _asking.now.mapping.segment_ms }
-    ensures text { IfOk result (λ text. (o : Setup) (fs : List SequenceFound) → o.settings ≡ _settings.now → AreFound o (asking_view _asking.now) fs _looked.now →
-        text.items ≡ manifest (grid_in_use o (asking_view _asking.now)).step (periods_due o (asking_view _asking.now) (map sequence_view fs))) }
+    requires each { All (IsOfMapping asking.now.mapping) looked.now }
+    requires cells { all_cells_of grid.now looked.now ≤ 100000 }
+    requires grid { grid.now ≡ grid_of settings.now asking.now.mapping.segment_ms }
+    ensures text { IfOk result (λ text. (o : Setup) (fs : List SequenceFound) → o.settings ≡ settings.now → AreFound o (asking_view asking.now) fs looked.now →
+        text.items ≡ manifest (grid_in_use o (asking_view asking.now)).step (periods_due o (asking_view asking.now) (map sequence_view fs))) }
     ensures only { IfErr result (λ refusal. refusal ≡ NoMemory) }
 {
-    Err(Refusal::NoMemory)
+    let writing = Writing {
+        mapping: &asking.mapping,
+        grid,
+        align: settings.align,
+    };
+    let buffer_ms = asking.mapping.segment_ms().unwrap_or(settings.segment_ms);
+    let periods = periods(alloc, writing, looked)?;
+    match mpd(alloc, buffer_ms, &periods) {
+        Ok(text) => Ok(text),
+        Err(_) => Err(Refusal::NoMemory),
+    }
 }

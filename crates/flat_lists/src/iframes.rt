@@ -7,6 +7,7 @@ ghost use Rattle.vod_source.specs.Calls.{Came};
 ghost use Rattle.vod_source.specs.Causes.{Rose};
 ghost use Rattle.origin_model.specs.Iframes.{planned_iframes};
 ghost use Rattle.origin_model.specs.Sources.{is_declared};
+ghost use Rattle.answer_laws.specs.Refusals.{IsPathRefusal};
 ghost use Rattle.flat_lists.specs.Counted.{AreFew, AreMore, CountedAt, OfIframes};
 ghost use Rattle.flat_lists.specs.Listings.{rows_turns};
 ghost use Rattle.flat_segments.specs.Planned.{cutting_of};
@@ -44,6 +45,7 @@ pub fn iframe_rows<S: Store>(
     ensures content { S.content files.new ≡ S.content files.old }
     ensures later { S.faults files.old ≤ S.faults files.new }
     ensures store_failed { IsErrOf result StoreFailed → Rose (S.faults files.old) (S.faults files.new) }
+    ensures refused { IfErr result IsPathRefusal }
 {
     let asked = Asked {
         video: Some(video),
@@ -70,6 +72,7 @@ fn count_cells<S: Store>(
     ensures content { S.content files.new ≡ S.content files.old }
     ensures later { S.faults files.old ≤ S.faults files.new }
     ensures store_failed { IsErrOf result StoreFailed → Rose (S.faults files.old) (S.faults files.new) }
+    ensures refused { IfErr result IsPathRefusal }
 {
     if is_declared(parts_of(cut.timeline)) {
         count_declared(alloc, files, cut, asked)
@@ -94,6 +97,7 @@ fn count_declared<S: Store>(
     ensures content { S.content files.new ≡ S.content files.old }
     ensures later { S.faults files.old ≤ S.faults files.new }
     ensures store_failed { IsErrOf result StoreFailed → Rose (S.faults files.old) (S.faults files.new) }
+    ensures refused { IfErr result IsPathRefusal }
 {
     let counts = match counts_of(alloc, cut.grid, parts_of(cut.timeline)) {
         Ok(counts) => counts,
@@ -125,6 +129,7 @@ fn count_open<S: Store>(
     ensures content { S.content files.new ≡ S.content files.old }
     ensures later { S.faults files.old ≤ S.faults files.new }
     ensures store_failed { IsErrOf result StoreFailed → Rose (S.faults files.old) (S.faults files.new) }
+    ensures refused { IfErr result IsPathRefusal }
 {
     let (part, _) = part_at(cut.timeline, 0);
     let needed = match all_needed(alloc, files, cut, asked) {
@@ -150,6 +155,7 @@ fn counted_rows(alloc: Global, cut: Cut<'_>, counted: &Counted) -> Result<Vec<If
     ensures listed { IfOk result (λ rows. OfIframes cut.entry.grid.now cut.entry.align cut.entry.timeline.now counted.now (AreFew rows.items)) }
     ensures more { IfErr result (λ refusal. refusal ≢ NoMemory → OfIframes cut.entry.grid.now cut.entry.align cut.entry.timeline.now counted.now (AreMore refusal)) }
     ensures not_failed { IsErrOf result StoreFailed → ⊥ }
+    ensures refused { IfErr result IsPathRefusal }
 {
     let rows = RowSlices {
         lead: &counted.needed.rows.lead,

@@ -1,5 +1,6 @@
 //! The lists of a request by the plain way, over the written-out samples of its pieces: what the request is about, the listed
-//! segments and the I-frames of a sequence, and the texts of master playlists and media presentation descriptions.
+//! segments and the I-frames of a sequence, what master playlists show and media presentation descriptions describe, and their
+//! texts.
 #![tactic(auto)]
 
 mod asking;
@@ -8,6 +9,7 @@ mod codecs;
 mod counted_cells;
 mod description;
 mod first_asked;
+mod found_periods;
 mod iframe_marks;
 mod iframes;
 mod listed_part;
@@ -18,13 +20,18 @@ mod looked_sequences;
 mod marked_rows;
 mod master;
 mod part_tracks;
+mod periods;
 mod reps;
 mod shown;
+mod subject;
 mod track_rows;
 mod variants;
 
-pub use asking::{Asking, asking_of};
+pub use asking::asking_of;
 pub use description::presentation_description;
+pub use found_periods::presentation_periods;
 pub use iframes::iframe_rows;
 pub use listed_timeline::timeline_rows;
 pub use master::master_playlist;
+pub use shown::{Shown, shown_sequences};
+pub use subject::Asking;

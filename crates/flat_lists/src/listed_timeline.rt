@@ -11,6 +11,7 @@ ghost use Rattle.origin_model.specs.Loaded.{CheckedPiece};
 ghost use Rattle.origin_model.specs.Plans.{few_cells as few_cells_of, planned_rows};
 ghost use Rattle.origin_model.specs.Sources.{is_declared, source_piece};
 ghost use Rattle.vod_source.specs.Calls.{Came};
+ghost use Rattle.answer_laws.specs.Refusals.{IsPathRefusal};
 ghost use Rattle.flat_lists.specs.ListedParts.{part_over};
 ghost use Rattle.segment_model.specs.Listing.{listed_view};
 ghost use Rattle.flat_lists.specs.Listings.{HasPart, rows_turns};
@@ -47,6 +48,7 @@ pub fn timeline_rows<S: Store>(
     ensures content { S.content files.new ≡ S.content files.old }
     ensures later { S.faults files.old ≤ S.faults files.new }
     ensures store_failed { IsErrOf result StoreFailed → Rose (S.faults files.old) (S.faults files.new) }
+    ensures refused { IfErr result IsPathRefusal }
 {
     if is_declared(parts_of(cut.timeline)) {
         declared_rows(alloc, files, cut, asked)
@@ -70,6 +72,7 @@ fn declared_rows<S: Store>(
     ensures content { S.content files.new ≡ S.content files.old }
     ensures later { S.faults files.old ≤ S.faults files.new }
     ensures store_failed { IsErrOf result StoreFailed → Rose (S.faults files.old) (S.faults files.new) }
+    ensures refused { IfErr result IsPathRefusal }
 {
     let counts = match counts_of(alloc, cut.grid, parts_of(cut.timeline)) {
         Ok(counts) => counts,
@@ -100,6 +103,7 @@ fn open_rows<S: Store>(
     ensures content { S.content files.new ≡ S.content files.old }
     ensures later { S.faults files.old ≤ S.faults files.new }
     ensures store_failed { IsErrOf result StoreFailed → Rose (S.faults files.old) (S.faults files.new) }
+    ensures refused { IfErr result IsPathRefusal }
 {
     let (part, _) = part_at(cut.timeline, 0);
     let needed = match all_needed(alloc, files, cut, asked) {
@@ -120,6 +124,7 @@ pub(crate) fn few_cells(counts: &[u64]) -> Result<(), Refusal>
     ensures few { IfOk result (λ done. sum counts.now ≤ 100000) }
     ensures many { IfErr result (λ refusal. few_cells_of (sum counts.now) ≡ Err refusal) }
     ensures not_failed { IsErrOf result StoreFailed → ⊥ }
+    ensures refused { IfErr result IsPathRefusal }
 {
     let all = sum_of(counts);
     if all > 100_000 {
@@ -141,6 +146,7 @@ pub(crate) fn all_needed<S: Store>(
     ensures content { S.content files.new ≡ S.content files.old }
     ensures later { S.faults files.old ≤ S.faults files.new }
     ensures store_failed { IsErrOf result StoreFailed → Rose (S.faults files.old) (S.faults files.new) }
+    ensures refused { IfErr result IsPathRefusal }
 {
     needed_of(
         alloc,

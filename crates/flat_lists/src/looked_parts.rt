@@ -6,6 +6,7 @@ ghost use Rattle.vod_types.specs.declared.refusal.Refusal.TheVariants.{NoMemory,
 ghost use Rattle.vod_source.specs.Causes.{Rose};
 ghost use Rattle.clip_model.specs.IsTimeline.{IsPiece};
 ghost use Rattle.flat_samples.specs.Movies.{AreTrue};
+ghost use Rattle.answer_laws.specs.Refusals.{IsPathRefusal};
 ghost use Rattle.flat_lists.specs.LookedParts.{FirstStands, IsFirstTour, IsLaterTour, IsPartTour, IsPieceTour, IsOfFirst, IsWithPiece, AreWithPieces, IsPartOf};
 ghost use Rattle.flat_lists.specs.PartTracks.{part_seen, ArePlaced};
 
@@ -45,6 +46,7 @@ pub(crate) fn look_at_part<S: Store>(
     ensures content { S.content files.new ≡ S.content files.old }
     ensures later { S.faults files.old ≤ S.faults files.new }
     ensures store_failed { IsErrOf result StoreFailed → Rose (S.faults files.old) (S.faults files.new) }
+    ensures refused { IfErr result IsPathRefusal }
 {
     let Some((first, later)) = pieces.split_first() else {
         return Ok(PartTracks::none());
@@ -74,6 +76,7 @@ fn look_at_first<S: Store>(
     ensures content { S.content files.new ≡ S.content files.old }
     ensures later { S.faults files.old ≤ S.faults files.new }
     ensures store_failed { IsErrOf result StoreFailed → Rose (S.faults files.old) (S.faults files.new) }
+    ensures refused { IfErr result IsPathRefusal }
 {
     match movies.turn(alloc, files, piece.name.as_str()) {
         Ok(()) => first_of(alloc, looking, piece, movies.front()),
@@ -94,6 +97,7 @@ fn first_of(
     ensures of { IfOk result (λ r. IsOfFirst looking.entry.mapping.now looking.entry.sequence piece.now (part_seen r.1)) }
     ensures placed { IfOk result (λ r. ArePlaced r.1) }
     ensures not_failed { IfErr result (λ refusal. refusal ≢ StoreFailed) }
+    ensures refused { IfErr result IsPathRefusal }
 {
     let asked = match asked_of(alloc, piece, movie) {
         Ok(asked) => asked,
@@ -130,6 +134,7 @@ fn look_at_later<S: Store>(
     ensures content { S.content files.new ≡ S.content files.old }
     ensures later { S.faults files.old ≤ S.faults files.new }
     ensures store_failed { IsErrOf result StoreFailed → Rose (S.faults files.old) (S.faults files.new) }
+    ensures refused { IfErr result IsPathRefusal }
 {
     let mut part = first;
     let mut place = 1;
@@ -163,6 +168,7 @@ fn look_at<S: Store>(
     ensures content { S.content files.new ≡ S.content files.old }
     ensures later { S.faults files.old ≤ S.faults files.new }
     ensures store_failed { IsErrOf result StoreFailed → Rose (S.faults files.old) (S.faults files.new) }
+    ensures refused { IfErr result IsPathRefusal }
 {
     match movies.turn(alloc, files, piece.name.as_str()) {
         Ok(()) => {}

@@ -6,12 +6,14 @@ ghost use Rattle.vod_types.specs.declared.refusal.Refusal.TheVariants.{NoMemory,
 ghost use Rattle.vod_source.specs.Causes.{Rose};
 ghost use Rattle.clip_model.specs.IsTimeline.{IsTimeline};
 ghost use Rattle.flat_samples.specs.Movies.{AreTrue};
+ghost use Rattle.answer_laws.specs.Refusals.{IsPathRefusal};
 ghost use Rattle.flat_lists.specs.Asked.{asking_view, setup_of};
 ghost use Rattle.flat_lists.specs.LookedSequences.{IsLookedPart, IsLookedSequence, IsPartsTour, IsSequenceTour, IsTimelineTour, AreSequences};
+ghost use Rattle.flat_lists.specs.Written.{IsOfMapping};
 
-use crate::asking::Asking;
 use crate::looked_parts::{Looking, look_at_part};
 use crate::part_tracks::PartTracks;
+use crate::subject::Asking;
 use clip_model::Part;
 use flat_samples::Movies;
 use flat_segments::{part_at, parts_of};
@@ -46,12 +48,13 @@ pub(crate) fn look_at_sequences<S: Store>(
 ) -> Result<Vec<LookedSequence>, Refusal>
     ensures told { IfSome (S.content files.old) (λ known.
         AreSequences (λ ss. ss.items) (setup_of settings.now root.now known) (asking_view asking.now) result (S.log files.old) (S.log files.new)) }
-    ensures each { IfOk result (λ ss. All IsLookedSequence ss.items) }
+    ensures each { IfOk result (λ ss. All (IsOfMapping asking.now.mapping) ss.items) }
     ensures some { IfOk result (λ ss. length ss.items ≡ length asking.now.mapping.sequences) }
     ensures count { IfOk result (λ ss. IsInRange 1 32 (length ss.items)) }
     ensures content { S.content files.new ≡ S.content files.old }
     ensures later { S.faults files.old ≤ S.faults files.new }
     ensures store_failed { IsErrOf result StoreFailed → Rose (S.faults files.old) (S.faults files.new) }
+    ensures refused { IfErr result IsPathRefusal }
 {
     let mut movies = Movies::new(alloc);
     let mut looked = Vec::new(alloc);
@@ -92,9 +95,11 @@ fn look_at_sequence<S: Store>(
     ensures told { IfSome (S.content files.old) (λ known. AreTrue known movies.old →
         IsSequenceTour (setup_of settings.now root.now known) (asking_view asking.now) number result movies.old movies.new (S.log files.old) (S.log files.new)) }
     ensures each { IfOk result IsLookedSequence }
+    ensures number { IfOk result (λ s. s.number ≡ number) }
     ensures content { S.content files.new ≡ S.content files.old }
     ensures later { S.faults files.old ≤ S.faults files.new }
     ensures store_failed { IsErrOf result StoreFailed → Rose (S.faults files.old) (S.faults files.new) }
+    ensures refused { IfErr result IsPathRefusal }
 {
     let looking = Looking {
         mapping: &asking.mapping,
@@ -127,9 +132,11 @@ fn look_at_timeline<S: Store>(
     ensures told { IfSome (S.content files.old) (λ known. AreTrue known movies.old →
         IsTimelineTour known looking.entry.edits looking.entry.mapping.now looking.entry.sequence timeline.now result movies.old movies.new (S.log files.old) (S.log files.new)) }
     ensures each { IfOk result IsLookedSequence }
+    ensures number { IfOk result (λ s. s.number ≡ looking.entry.sequence) }
     ensures content { S.content files.new ≡ S.content files.old }
     ensures later { S.faults files.old ≤ S.faults files.new }
     ensures store_failed { IsErrOf result StoreFailed → Rose (S.faults files.old) (S.faults files.new) }
+    ensures refused { IfErr result IsPathRefusal }
 {
     match look_at_parts(alloc, files, movies, looking, timeline) {
         Ok(parts) => Ok(LookedSequence {
@@ -156,6 +163,7 @@ fn look_at_parts<S: Store>(
     ensures content { S.content files.new ≡ S.content files.old }
     ensures later { S.faults files.old ≤ S.faults files.new }
     ensures store_failed { IsErrOf result StoreFailed → Rose (S.faults files.old) (S.faults files.new) }
+    ensures refused { IfErr result IsPathRefusal }
 {
     let mut looked = Vec::new(alloc);
     for place in 0..count_of(timeline) {

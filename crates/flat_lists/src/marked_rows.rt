@@ -2,6 +2,7 @@
 
 ghost use Rattle.std.specs.Prelude.{◌≡◌, ◌≢◌, ◌≤◌, ◌<◌, ◌^◌, IfErr, IfOk, IfSome, length, unsigned_abs};
 ghost use Rattle.vod_types.specs.declared.refusal.Refusal.TheVariants.{NoMemory, TooManyIframes};
+ghost use Rattle.answer_laws.specs.Refusals.{IsPathRefusal};
 ghost use Rattle.flat_lists.specs.Marks.{end_of_mark, row_of_mark, rows_of_marks, AreMarks};
 
 use crate::iframe_marks::Mark;
@@ -13,6 +14,7 @@ pub(crate) fn listed_rows(alloc: Global, marks: &[Mark]) -> Result<Vec<IframeRow
     requires small { AreMarks marks.now }
     ensures listed { IfOk result (λ rows. (rows.items ≡ rows_of_marks 0 marks.now) × (length marks.now ≤ 100000)) }
     ensures only { IfErr result (λ refusal. refusal ≢ NoMemory → (100000 < length marks.now) × (refusal ≡ TooManyIframes (length marks.now))) }
+    ensures refused { IfErr result IsPathRefusal }
 {
     if marks.len() > 100_000 {
         return Err(Refusal::TooManyIframes {

@@ -1,15 +1,16 @@
 //! Master playlists, by the first piece of each sequence.
 
-ghost use Rattle.std.specs.Prelude.{◌≡◌, ◌≤◌, IfSome, IsErrOf};
+ghost use Rattle.std.specs.Prelude.{◌≡◌, ◌≤◌, IfSome, IsErrOf, IfErr};
 ghost use Rattle.vod_types.specs.declared.paths.Leaf.TheVariants.{Master};
 ghost use Rattle.vod_types.specs.declared.refusal.Refusal.TheVariants.{StoreFailed};
 ghost use Rattle.vod_source.specs.Calls.{Came};
 ghost use Rattle.vod_source.specs.Causes.{Rose};
+ghost use Rattle.answer_laws.specs.Refusals.{IsPathRefusal};
 ghost use Rattle.flat_lists.specs.Asked.{asking_view, setup_of};
 ghost use Rattle.flat_lists.specs.Listings.{leaf_turns, master_due};
 
-use crate::asking::Asking;
 use crate::shown::shown_sequences;
+use crate::subject::Asking;
 use crate::variants::text_of;
 use std::alloc::Global;
 use vod_source::Store;
@@ -32,6 +33,7 @@ pub fn master_playlist<S: Store>(
     ensures content { S.content files.new ≡ S.content files.old }
     ensures later { S.faults files.old ≤ S.faults files.new }
     ensures store_failed { IsErrOf result StoreFailed → Rose (S.faults files.old) (S.faults files.new) }
+    ensures refused { IfErr result IsPathRefusal }
 {
     match shown_sequences(alloc, files, settings, root, asking) {
         Ok(shown) => text_of(alloc, &asking.mapping, settings.iframes, &shown),

@@ -14,6 +14,7 @@ ghost use Rattle.origin_model.specs.Lists.{first_track};
 ghost use Rattle.origin_model.specs.Sources.{source_piece};
 ghost use Rattle.flat_samples.specs.Checks.{checked_view, AreSound};
 ghost use Rattle.flat_samples.specs.Rows.{rows_with};
+ghost use Rattle.answer_laws.specs.Refusals.{IsPathRefusal};
 ghost use Rattle.flat_lists.specs.PartTracks.{alone, asked_in, facts_due, part_begun, part_seen, part_with, seen_of, seen_with, seen_due, no_rows, ArePlaced, IsPlacedTrack};
 
 use crate::bandwidths::bandwidth;
@@ -229,6 +230,7 @@ fn add_rows(
 /// Which of v1 and a1 a piece exposes in the movie of its file. Refused with `NoTrack` of v1 where it exposes neither.
 pub(crate) fn asked_of(alloc: Global, piece: &Piece, movie: &Movie) -> Result<Asked, Refusal>
     ensures answers { Answers (λ a. a) result (asked_in piece.now movie.now.movie) }
+    ensures refused { IfErr result IsPathRefusal }
 {
     let asked = Asked {
         video: first_number(piece, movie, Kind::Video),

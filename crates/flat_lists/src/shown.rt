@@ -1,6 +1,6 @@
 //! The sequences of a request as a master playlist shows them, each by its first piece.
 
-ghost use Rattle.std.specs.Prelude.{◌≡◌, ◌≤◌, ◌^◌, [], ◌∷◌, All, IfOk, IfSome, IsErrOf, length, not, option_map};
+ghost use Rattle.std.specs.Prelude.{◌≡◌, ◌≤◌, ◌^◌, [], ◌∷◌, All, IfOk, IfSome, IsErrOf, length, not, option_map, IfErr};
 ghost use Rattle.std.specs.Int.{IsInRange};
 ghost use Rattle.std.specs.Option.{option_map_or};
 ghost use Rattle.vod_types.specs.declared.refusal.Refusal.TheVariants.{StoreFailed};
@@ -15,14 +15,15 @@ ghost use Rattle.origin_model.specs.Writable.{IsSoundPiece};
 ghost use Rattle.list_model.specs.Names.{IsAsked};
 ghost use Rattle.flat_samples.specs.Checks.{checked_view};
 ghost use Rattle.flat_samples.specs.Movies.{AreTrue};
+ghost use Rattle.answer_laws.specs.Refusals.{IsPathRefusal};
 ghost use Rattle.flat_lists.specs.Asked.{asking_view, setup_of};
 ghost use Rattle.flat_lists.specs.Shown.{IsShown, all_shown, bandwidth_in, first_names, shown_by_piece, shown_due, shown_in_movie, shown_of, shown_turns};
 ghost use Rattle.flat_lists.specs.Steps.{IsStep};
 
-use crate::asking::Asking;
 use crate::bandwidths::bandwidth;
 use crate::codecs::{codec_name, object_type};
 use crate::first_asked::first_asked;
+use crate::subject::Asking;
 use clip_map::Mapping;
 use clip_model::Piece;
 use flat_samples::{CheckedTracks, Movie, Movies, check};
@@ -34,20 +35,20 @@ use vod_types::{Asked, CodecName, Kind, Refusal, Settings};
 /// A sequence as a master playlist shows it: the tracks that are asked of it, the bits per second of its video and of its
 /// audio, which are 0 where there is none, and what is said of these tracks.
 #[derive(Clone, Copy, Debug)]
-pub(crate) struct Shown {
-    pub(crate) sequence: u32,
-    pub(crate) asked: Asked,
-    pub(crate) video_bandwidth: u128,
-    pub(crate) audio_bandwidth: u128,
-    pub(crate) size: Option<(u16, u16)>,
-    pub(crate) video: Option<CodecName>,
-    pub(crate) aac: Option<u8>,
+pub struct Shown {
+    pub sequence: u32,
+    pub asked: Asked,
+    pub video_bandwidth: u128,
+    pub audio_bandwidth: u128,
+    pub size: Option<(u16, u16)>,
+    pub video: Option<CodecName>,
+    pub aac: Option<u8>,
 }
 
 /// The sequences of what a request is about, in order. Of the files the movies of their first pieces are read.
 ///
 /// Refused, sequence by sequence, where the sequence has no piece, and with the first fault of its first piece.
-pub(crate) fn shown_sequences<S: Store>(
+pub fn shown_sequences<S: Store>(
     alloc: Global,
     files: &mut S,
     settings: &Settings,
@@ -61,6 +62,7 @@ pub(crate) fn shown_sequences<S: Store>(
     ensures content { S.content files.new ≡ S.content files.old }
     ensures later { S.faults files.old ≤ S.faults files.new }
     ensures store_failed { IsErrOf result StoreFailed → Rose (S.faults files.old) (S.faults files.new) }
+    ensures refused { IfErr result IsPathRefusal }
 {
     let mut movies = Movies::new(alloc);
     let mut all = Vec::new(alloc);
@@ -97,6 +99,7 @@ fn look<S: Store>(
     ensures content { S.content files.new ≡ S.content files.old }
     ensures later { S.faults files.old ≤ S.faults files.new }
     ensures store_failed { IsErrOf result StoreFailed → Rose (S.faults files.old) (S.faults files.new) }
+    ensures refused { IfErr result IsPathRefusal }
 {
     let timeline = match asking.timeline(alloc, root, sequence) {
         Ok(timeline) => timeline,
@@ -130,6 +133,7 @@ fn look_at<S: Store>(
     ensures content { S.content files.new ≡ S.content files.old }
     ensures later { S.faults files.old ≤ S.faults files.new }
     ensures store_failed { IsErrOf result StoreFailed → Rose (S.faults files.old) (S.faults files.new) }
+    ensures refused { IfErr result IsPathRefusal }
 {
     match movies.turn(alloc, files, piece.name.as_str()) {
         Ok(()) => {}
@@ -160,6 +164,7 @@ fn shown_in(
     ensures answers { Answers (λ shown. shown) result (shown_in_movie edits mapping.now sequence piece.now movie.now.movie) }
     ensures shown { IfOk result (IsShown (length mapping.now.sequences)) }
     ensures store { IsErrOf result StoreFailed → ⊥ }
+    ensures refused { IfErr result IsPathRefusal }
 {
     let asked = match first_asked(alloc, piece, movie) {
         Ok(asked) => asked,

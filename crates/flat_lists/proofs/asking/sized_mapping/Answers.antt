@@ -3,6 +3,8 @@ use Rattle.clip_model.specs.Walk.{mapping_of}
 use Rattle.vod_types.specs.Results.{Answers}
 use Rattle.vod_source.proofs.CallLemmas.{told_with_all, told_with_both, answers-not_failed}
 use Rattle.flat_lists.proofs.AskingLemmas.{mapping_of-not_failed, mapping-long, mapping-read}
+use Rattle.answer_laws.proofs.Due.{answers_may}
+use Rattle.answer_laws.proofs.Mappings.{mapping_may}
 use Rattle.flat_lists.proofs.asking.sized_mapping.Goals as goal
 
 pub returns-then-size-gt-LONGEST_MAPPING-clause-told : goal.returns-then-size-gt-LONGEST_MAPPING-clause-told
@@ -19,3 +21,6 @@ returns-in-Ok-clause-told g c =
 pub returns-in-Ok-clause-store_failed : goal.returns-in-Ok-clause-store_failed
 returns-in-Ok-clause-store_failed g c =
     λ failed. absurd (answers-not_failed (λ m. m) _ c.read_mapping.result (mapping_of-not_failed _) c.read_mapping.ensures failed)
+
+pub returns-in-Ok-clause-refused : goal.returns-in-Ok-clause-refused
+returns-in-Ok-clause-refused g c = answers_may (λ m. m) _ (mapping_may _) c.read_mapping.result c.read_mapping.ensures

@@ -5,6 +5,7 @@ use Rattle.flat_lists.specs.Asked.{asking_view}
 use Rattle.flat_lists.specs.CountedCells.{all_cells}
 use Rattle.flat_lists.proofs.CellsFound.{described_few, described_many}
 use Rattle.flat_lists.proofs.ListedTimelines.{ok_all}
+use Rattle.flat_lists.proofs.PeriodLemmas.{all_looked}
 use Rattle.flat_lists.proofs.description.described.Goals as goal
 
 pub returns-in-Err-clause-text : goal.returns-in-Err-clause-text
@@ -14,6 +15,9 @@ pub returns-then-cells-gt100000-clause-text : goal.returns-then-cells-gt100000-c
 returns-then-cells-gt100000-clause-text c = λ o fs same found other.
     described_many o (asking_view c.args.asking.now) fs c.args.looked.now found c.all_cells-cells.result
     (c.all_cells-cells.ensures ∙ ap (λ (g : SegmentGrid). all_cells g c.args.looked.now) (c.in-Ok.ensures.grid ∙ ap (λ (s : Settled). grid_of s c.args.asking.now.mapping.segment_ms) (sym same))) c.if-cells-gt100000.true
+
+pub all_cells-cells-requires-clause-each : goal.all_cells-cells-requires-clause-each
+all_cells-cells-requires-clause-each c = all_looked c.args.asking.now.mapping c.args.looked.now c.requires.each
 
 pub written-requires-clause-cells : goal.written-requires-clause-cells
 written-requires-clause-cells c = subst (λ (n : ℕ). n ≤ 100000) c.all_cells-cells.ensures c.if-cells-gt100000.false

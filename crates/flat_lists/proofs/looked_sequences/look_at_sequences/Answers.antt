@@ -7,7 +7,8 @@ use Rattle.std.proofs.lemmas.List.FromFn.{length-range_with_len}
 use Rattle.vod_source.proofs.CallLemmas.{told_all, told_with_all, told_with_other}
 use Rattle.flat_samples.specs.Movies.{HeldMovie}
 use Rattle.flat_lists.specs.Asked.{asking_view, setup_of}
-use Rattle.flat_lists.specs.LookedSequences.{IsLookedSequence, numbers, sequence_found, sequence_kept, sequence_names, sequence_seen}
+use Rattle.flat_lists.specs.LookedSequences.{numbers, sequence_found, sequence_kept, sequence_names, sequence_seen}
+use Rattle.flat_lists.specs.Written.{IsOfMapping}
 use Rattle.flat_lists.proofs.SequenceLemmas.{all_more, drop_range, map_more, one_more}
 use Rattle.flat_lists.proofs.Tours.{IsListWalk, list_begins, list_cut, list_ended, list_on, list_refused, whole_tour}
 use Rattle.flat_lists.proofs.looked_sequences.look_at_sequences.Goals as goal
@@ -16,7 +17,7 @@ pub loop-place-init : goal.loop-place-init
 loop-place-init g c = record {
   content = refl;
   later = omega arith;
-  each = subst (All IsLookedSequence) (sym c.new-looked.ensures.items) (All-nil IsLookedSequence);
+  each = subst (All (IsOfMapping c.args.asking.now.mapping)) (sym c.new-looked.ensures.items) (All-nil (IsOfMapping c.args.asking.now.mapping));
   count = ap (λ (xs : List _). length xs) c.new-looked.ensures.items;
   walk = told_all (g.S.Store.content c.args.files.now) _ (λ known.
       let o = setup_of c.args.settings.now c.args.root.now known in
@@ -71,7 +72,8 @@ loop-place-preserved g c =
     record {
       content = c.in-Ok.ensures.content ∙ c.loop-place.invariant.content;
       later = omega (arith, c.in-Ok.ensures.later, c.loop-place.invariant.later);
-      each = all_more IsLookedSequence _ _ _ c.in-Ok-push.ensures.items c.loop-place.invariant.each c.in-Ok.ensures.each;
+      each = all_more (IsOfMapping c.args.asking.now.mapping) _ _ _ c.in-Ok-push.ensures.items c.loop-place.invariant.each
+          (record { looked = c.in-Ok.ensures.each; number = let same = c.in-Ok.ensures.number in (omega (arith, same), omega (arith, same, lt, c.sequences-place-end.ensures.count)) });
       count = one_more _ _ _ _ c.in-Ok-push.ensures.items c.loop-place.invariant.count;
       walk = told_with_other (g.S.Store.content c.args.files.now) _ _ _ _ c.loop-place.invariant.content c.loop-place.invariant.walk c.in-Ok.ensures.told
           (λ known w look.

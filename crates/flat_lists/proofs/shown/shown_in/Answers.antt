@@ -3,6 +3,8 @@ use Rattle.flat_samples.specs.Checks.{checked_view}
 use Rattle.flat_samples.proofs.CheckLemmas.{checked_in-not_failed}
 use Rattle.vod_source.proofs.CallLemmas.{refusal-not_failed}
 use Rattle.flat_lists.proofs.ShownLemmas.{shown-unasked, shown-checked, shown_is}
+use Rattle.answer_laws.proofs.Due.{due_may}
+use Rattle.answer_laws.proofs.Lists.{asked_first_may}
 use Rattle.flat_lists.proofs.shown.shown_in.Goals as goal
 
 pub returns-in-Err-clause-answers : goal.returns-in-Err-clause-answers
@@ -26,3 +28,6 @@ returns-in-Err-check-clause-answers c =
 pub returns-in-Err-check-clause-store : goal.returns-in-Err-check-clause-store
 returns-in-Err-check-clause-store c =
     λ failed. refusal-not_failed _ c.in-Err-check.refusal (checked_in-not_failed c.args.edits c.in-Ok.asked c.args.piece.now c.args.movie.now.movie) c.in-Err-check.ensures.answers cc
+
+pub returns-in-Err-clause-refused : goal.returns-in-Err-clause-refused
+returns-in-Err-clause-refused c = due_may _ (asked_first_may c.args.piece.now.name _ _) c.in-Err.refusal c.in-Err.ensures.answers
