@@ -22,7 +22,7 @@ use Rattle.origin_model.specs.Reads as reads
 use Rattle.origin_model.specs.Reads.{ask_reads, further_names, looks_of, mapping_reads_by, path_reads, sample_reads, turn_names, turn_pieces, turns}
 use Rattle.origin_model.specs.Requests.{Setup, Asking, asking_of, target_names}
 use Rattle.origin_model.proofs.Askings.{ask_in-range}
-use Rattle.mp4_flat.specs.Built.{built_paths, is_built_leaf}
+use Rattle.mp4_flat.specs.Built.{built_paths, is_built_leaf, IsBuiltAsk}
 use Rattle.vod_source.specs.Calls.{AnswersUnlessFailed, LogsReads, Came}
 use Rattle.mp4_flat.specs.Flat.{IsAskAnswer, IsFlatAnswer, IsLeafAnswer, flat_seen, leaf_reads}
 use Rattle.flat_segments.specs.Bodies.{flat_shown}
@@ -92,71 +92,72 @@ module _ (o : Setup) (ask : Ask) where
         logged = subst (λ (all : List Read). LogsReads r all log log_now) (sym reads) (logs_then r mapped (leaf_reads o a ask.leaf) log log_asked log_now made came.logged);
       }
 
--- ---- a path
+-- ---- what a path asks for
 
-module _ (o : Setup) (path : List ℕ) where
+module _ (path : List ℕ) where
   readable_none : ask_of path ≡ None → readable built_paths path ≡ Err refusals.BadPath
   unfolding readable_as
   readable_none e = rw e refl
 
-  readable_unbuilt : (ask : Ask) → ask_of path ≡ Some ask → built_paths ask ≡ false → readable built_paths path ≡ Err (refusals.Unsupported (codes "form"))
-  unfolding readable_as
-  readable_unbuilt ask e b = rw (e, b) refl
-
-  pub readable_built : (ask : Ask) → ask_of path ≡ Some ask → built_paths ask ≡ true → readable built_paths path ≡ Ok ask
-  unfolding readable_as
-  readable_built ask e b = rw (e, b) refl
-
-  -- nothing was read
-  unread : (r : Refusal) (log : Option (List Read)) → (r ≢ NoMemory → readable built_paths path ≡ Err r) → IsFlatAnswer built_paths o path (Err r) log log
-  unfolding answer path_reads
-  unread r log h = record {
-    answered = λ known_memory known_store. ap (λ (x : Result Ask Refusal). flat_seen (x >>= ask_answer o None)) (h known_memory);
-    reads = path_reads built_paths o [] true [] path None;
-    reads_are = record { taken = []; are = refl };
-    logged = logs_unmade r (path_reads built_paths o [] true [] path None) log log refl (λ known_memory known_store. ap (λ (x : Result Ask Refusal). reads.if_readable x [] (ask_reads o [] true [] None)) (h known_memory));
-  }
-
   -- the path isn't in the grammar
-  pub path_refused : (r : Refusal) (log : Option (List Read)) → (r ≢ NoMemory → ok_or (ask_of path) refusals.BadPath ≡ Err r) → IsFlatAnswer built_paths o path (Err r) log log
-  path_refused r log h = unread r log (λ known_memory. by_ask (ask_of path) refl (h known_memory))
+  pub read_refused : (r : Refusal) → (r ≢ NoMemory → ok_or (ask_of path) refusals.BadPath ≡ Err r) → r ≢ NoMemory → readable built_paths path ≡ Err r
+  read_refused r h known_memory = by_ask (ask_of path) refl (h known_memory)
     where
       by_ask : (found : Option Ask) → ask_of path ≡ found → ok_or found refusals.BadPath ≡ Err r → readable built_paths path ≡ Err r
       by_ask None e is = readable_none e ∙ cc
       by_ask (Some ask) e is = absurd cc
 
   -- its form isn't built
-  pub form_refused : (ask : Ask) (r : Refusal) (log : Option (List Read)) → ok_or (ask_of path) refusals.BadPath ≡ Ok ask → false ≡ built_paths ask → (r ≢ NoMemory → r ≡ refusals.Unsupported (codes "form"))
-      → IsFlatAnswer built_paths o path (Err r) log log
-  form_refused ask r log read b h = unread r log (λ known_memory. readable_unbuilt ask (ok_or_ok (ask_of path) refusals.BadPath ask read) (sym b) ∙ ap Err (sym (h known_memory)))
+  pub read_unbuilt : (ask : Ask) (r : Refusal) → ok_or (ask_of path) refusals.BadPath ≡ Ok ask → false ≡ built_paths ask → (r ≢ NoMemory → r ≡ refusals.Unsupported (codes "form")) → r ≢ NoMemory → readable built_paths path ≡ Err r
+  unfolding readable_as
+  read_unbuilt ask r read b h known_memory = rw (ok_or_ok (ask_of path) refusals.BadPath ask read, sym b) (ap Err (sym (h known_memory)))
 
   -- its form is built
-  pub path_answered : (ask : Ask) (r : Result FlatBody Refusal) (log log_now : Option (List Read)) → ok_or (ask_of path) refusals.BadPath ≡ Ok ask → true ≡ built_paths ask → IsAskAnswer o ask r log log_now → IsFlatAnswer built_paths o path r log log_now
+  pub read_built : (ask : Ask) → ok_or (ask_of path) refusals.BadPath ≡ Ok ask → true ≡ built_paths ask → readable built_paths path ≡ Ok ask
+  unfolding readable_as
+  read_built ask read b = rw (ok_or_ok (ask_of path) refusals.BadPath ask read, sym b) refl
+
+  -- what it asks for
+  pub built_ask : (ask : Ask) → ok_or (ask_of path) refusals.BadPath ≡ Ok ask → true ≡ built_paths ask → IsBuiltAsk ask
+  unfolding built_paths
+  built_ask ask read b =
+      let is : ask_of path ≡ Some ask = ok_or_ok (ask_of path) refusals.BadPath ask read in
+      record { built = sym b; leaf = ask_of_leaf path ask is; names = (ask_in-range path ask is).names }
+
+-- ---- a path
+
+module _ (o : Setup) (path : List ℕ) where
+  -- what is asked for isn't read, and nothing was read for it
+  pub path_refused : (r : Refusal) (log : Option (List Read)) → (r ≢ NoMemory → readable built_paths path ≡ Err r) → IsFlatAnswer built_paths o path (Err r) log log
   unfolding answer path_reads
-  path_answered ask r log log_now read b came =
-      let is : readable built_paths path ≡ Ok ask = readable_built ask (ok_or_ok (ask_of path) refusals.BadPath ask read) (sym b) in
-      record {
-        answered = subst (AnswersUnlessFailed flat_shown r) (sym (ap (λ (x : Result Ask Refusal). flat_seen (x >>= ask_answer o None)) is)) came.answered;
-        reads = ask_reads o [] true [] None ask;
-        reads_are = record { taken = []; are = sym (ap (λ (x : Result Ask Refusal). reads.if_readable x [] (ask_reads o [] true [] None)) is) };
-        logged = came.logged;
-      }
+  path_refused r log h = record {
+    answered = λ known_memory known_store. ap (λ (x : Result Ask Refusal). flat_seen (x >>= ask_answer o None)) (h known_memory);
+    reads = path_reads built_paths o [] true [] path None;
+    reads_are = record { taken = []; are = refl };
+    logged = logs_unmade r (path_reads built_paths o [] true [] path None) log log refl (λ known_memory known_store. ap (λ (x : Result Ask Refusal). reads.if_readable x [] (ask_reads o [] true [] None)) (h known_memory));
+  }
 
-  pub built_is_readable : (ask : Ask) → ok_or (ask_of path) refusals.BadPath ≡ Ok ask → true ≡ built_paths ask → IsErr (readable built_paths path) → ⊥
-  built_is_readable ask read b err = by_readable (readable built_paths path) (readable_built ask (ok_or_ok (ask_of path) refusals.BadPath ask read) (sym b)) err
-    where
-      by_readable : (r : Result Ask Refusal) → r ≡ Ok ask → IsErr r → ⊥
-      by_readable (Ok found) e err = absurd cc
-      by_readable (Err d) e err = absurd cc
+  -- its form is built
+  pub path_answered : (ask : Ask) (r : Result FlatBody Refusal) (log log_now : Option (List Read)) → readable built_paths path ≡ Ok ask → IsAskAnswer o ask r log log_now → IsFlatAnswer built_paths o path r log log_now
+  unfolding answer path_reads
+  path_answered ask r log log_now is came = record {
+    answered = subst (AnswersUnlessFailed flat_shown r) (sym (ap (λ (x : Result Ask Refusal). flat_seen (x >>= ask_answer o None)) is)) came.answered;
+    reads = ask_reads o [] true [] None ask;
+    reads_are = record { taken = []; are = sym (ap (λ (x : Result Ask Refusal). reads.if_readable x [] (ask_reads o [] true [] None)) is) };
+    logged = came.logged;
+  }
 
-  pub few_names : (ask : Ask) → ok_or (ask_of path) refusals.BadPath ≡ Ok ask → IsInRange 1 32 (length (target_names ask.target))
-  few_names ask read = (ask_in-range path ask (ok_or_ok (ask_of path) refusals.BadPath ask read)).names
+-- a path that is read isn't refused
+pub read_is_ok : (path : List ℕ) (ask : Ask) → readable built_paths path ≡ Ok ask → IsErr (readable built_paths path) → ⊥
+read_is_ok path ask is err = by_readable (readable built_paths path) is err
+  where
+    by_readable : (r : Result Ask Refusal) → r ≡ Ok ask → IsErr r → ⊥
+    by_readable (Ok found) e err = absurd cc
+    by_readable (Err d) e err = absurd cc
 
--- ---- the leaf of a request
-
-pub built_leaf : (ask : Ask) → true ≡ built_paths ask → is_built_leaf ask.leaf ≡ true
-unfolding built_paths
-built_leaf ask e = sym e
+-- the names of a path are few
+pub few_names : (o : Setup) (path : List ℕ) (ask : Ask) → ok_or (ask_of path) refusals.BadPath ≡ Ok ask → IsInRange 1 32 (length (target_names ask.target))
+few_names o path ask read = (ask_in-range path ask (ok_or_ok (ask_of path) refusals.BadPath ask read)).names
 
 -- the leaf of a path is one of its protocol
 pub leaf_in-range : (path : List ℕ) (ask : Ask) → ok_or (ask_of path) refusals.BadPath ≡ Ok ask → IsLeafOf (is_dash ask.place) ask.leaf

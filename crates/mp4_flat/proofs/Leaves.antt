@@ -263,7 +263,7 @@ module _ (o : Setup) (a : Asking) (sequence : ℕ) where
       }
 
 -- the rows of listed segments are those that a list has
-listed-rows : (ls : List Listed) → map (λ l. l.row) ls ≡ map (λ l. l.0) (map listed_view ls)
+pub listed-rows : (ls : List Listed) → map (λ l. l.row) ls ≡ map (λ l. l.0) (map listed_view ls)
 listed-rows [] = refl
 listed-rows (l ∷ ls) = ap (λ (rows : List SegmentRow). l.row ∷ rows) (listed-rows ls)
 

@@ -3,4 +3,8 @@ pub mod InitLemmas
 pub mod Leaves
 pub mod ListedPaths
 pub mod Sequences
+pub mod StreamLemmas
 pub mod PackLemmas
+pub mod HlsNames
+pub mod NameLemmas
+pub mod PackedPaths

@@ -1,11 +1,13 @@
 -- What the plain way answers; this project's own.
-use Rattle.std.specs.Prelude.{ℕ, Bool, true, List, [], ◌++◌, Option, None, Result}
+use Rattle.std.specs.Prelude.{ℕ, Bool, true, false, List, [], ◌++◌, Option, None, Result}
 use Rattle.std.specs.Result.{result_map_both}
 use Rattle.vod_types.specs.declared.paths.Ask.{Ask}
 use Rattle.vod_types.specs.declared.refusal.Refusal.{Refusal}
 use Rattle.list_model.specs.Reply.{Answer, Body}
 use Rattle.vod_source.specs.Stored.{Read}
 use Rattle.vod_types.specs.declared.paths.Leaf.{Leaf}
+use Rattle.vod_types.specs.declared.paths.Leaf.TheVariants.{Segment, Iframe}
+use Rattle.vod_types.specs.declared.segments.Form.TheVariants.{Ts}
 use Rattle.origin_model.specs.Answers.{answer, ask_answer, leaf_answer}
 use Rattle.origin_model.specs.Reads.{AreReads, ask_reads, turns, turn_names, sample_reads}
 use Rattle.origin_model.specs.Requests.{Setup, Asking}
@@ -37,3 +39,9 @@ leaf_reads o a leaf = (turns o.files [] (turn_names o a leaf)).reads ++ sample_r
 
 abbrev pub IsLeafAnswer : Setup → Asking → Leaf → Result FlatBody Refusal → Option (List Read) → Option (List Read) → Type 0
 IsLeafAnswer o a leaf result log log_now = Came flat_shown result (flat_seen (leaf_answer o a leaf)) (leaf_reads o a leaf) log log_now
+
+-- a leaf that is answered with a transport stream
+abbrev pub is_stream : Leaf → Bool
+is_stream (Segment number sequence asked Ts) = true
+is_stream (Iframe number index sequence video) = true
+is_stream _ = false

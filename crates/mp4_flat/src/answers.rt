@@ -1,11 +1,13 @@
 //! What a name is answered with, once it is known what its request is about.
 
-ghost use Rattle.std.specs.Prelude.{◌≡◌, ◌≢◌, ◌≤◌, true, IfSome, IsErrOf, codes};
+ghost use Rattle.std.specs.Prelude.{◌≡◌, ◌≢◌, ◌≤◌, true, IfErr, IfOk, IfSome, IsErrOf, codes};
 ghost use Rattle.vod_source.specs.Causes.{Rose};
 ghost use Rattle.vod_types.specs.declared.refusal.Refusal.TheVariants.{NoMemory, StoreFailed, Unsupported};
+ghost use Rattle.flat_segments.specs.Bodies.{IsInPackets};
 ghost use Rattle.flat_lists.specs.Asked.{asking_view, setup_of};
+ghost use Rattle.answer_laws.specs.Refusals.{IsPathRefusal};
 ghost use Rattle.mp4_flat.specs.Built.{is_built_leaf};
-ghost use Rattle.mp4_flat.specs.Flat.{IsLeafAnswer};
+ghost use Rattle.mp4_flat.specs.Flat.{is_stream, IsLeafAnswer};
 ghost use Rattle.mp4_flat.specs.Packed.{IsOfProtocol};
 
 use crate::lists::{description_answer, iframes_answer, index_answer, master_answer};
@@ -16,7 +18,7 @@ use std::alloc::Global;
 use vod_source::Store;
 use vod_types::{Leaf, Name, Refusal, Settings};
 
-/// Answers a name whose form is built.
+/// Answers a name that isn't a clip's.
 pub(crate) fn leaf_answer<S: Store>(
     alloc: Global,
     files: &mut S,
@@ -33,6 +35,8 @@ pub(crate) fn leaf_answer<S: Store>(
     ensures content { S.content files.new ≡ S.content files.old }
     ensures later { S.faults files.old ≤ S.faults files.new }
     ensures store_failed { IsErrOf result StoreFailed → Rose (S.faults files.old) (S.faults files.new) }
+    ensures refused { IfErr result IsPathRefusal }
+    ensures packets { is_stream leaf ≡ true → IfOk result IsInPackets }
 {
     match leaf {
         Leaf::Master => master_answer(alloc, files, settings, root, asking),
@@ -72,6 +76,7 @@ pub(crate) fn leaf_answer<S: Store>(
 pub(crate) fn unbuilt(alloc: Global) -> Refusal
     ensures form { result ≢ NoMemory → result ≡ Unsupported (codes "form") }
     ensures none_failed { result ≢ StoreFailed }
+    ensures refused { IsPathRefusal result }
 {
     match Name::new(alloc, "form") {
         Ok(name) => Refusal::Unsupported { name },

@@ -18,7 +18,7 @@ use vod_urls::write_leaf;
 /// How a packaging ended: all of it is put; before a list that is refused, or where the store failed or memory ran out; or
 /// where the sink failed.
 #[derive(Debug, Drop)]
-pub(crate) enum PackEnd {
+pub enum PackEnd {
     Whole,
     Refused(Refusal),
     SinkFailed,

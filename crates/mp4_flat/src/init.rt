@@ -8,6 +8,7 @@ ghost use Rattle.vod_types.specs.Results.{Answers};
 ghost use Rattle.vod_source.specs.Causes.{Rose};
 ghost use Rattle.origin_model.specs.Reads.{turns};
 ghost use Rattle.origin_model.specs.Requests.{init_piece};
+ghost use Rattle.answer_laws.specs.Refusals.{IsPathRefusal};
 ghost use Rattle.mp4_flat.specs.Inits.{part_init, init_names};
 ghost use Rattle.vod_source.specs.Calls.{Came};
 ghost use Rattle.media_model.specs.InitSegment.{IsEntry};
@@ -40,6 +41,7 @@ pub(crate) fn init_of_part<S: Store>(
     ensures content { S.content files.new ≡ S.content files.old }
     ensures later { S.faults files.old ≤ S.faults files.new }
     ensures store_failed { IsErrOf result StoreFailed → Rose (S.faults files.old) (S.faults files.new) }
+    ensures refused { IfErr result IsPathRefusal }
 {
     match first_piece(timeline, part) {
         Ok(piece) => init_of_piece(alloc, files, piece, edits, asked),
@@ -51,6 +53,7 @@ pub(crate) fn init_of_part<S: Store>(
 fn first_piece(timeline: &Timeline, number: u32) -> Result<&Piece, Refusal>
     ensures piece { MatchResult result (λ piece. init_piece timeline.now number ≡ Ok piece.now) (λ refusal. init_piece timeline.now number ≡ Err refusal) }
     ensures store { IsErrOf result StoreFailed → ⊥ }
+    ensures refused { IfErr result IsPathRefusal }
 {
     let Some(part) = part_of(timeline, number) else {
         return Err(Refusal::NoPart {
@@ -88,6 +91,7 @@ fn init_of_piece<S: Store>(
     ensures content { S.content files.new ≡ S.content files.old }
     ensures later { S.faults files.old ≤ S.faults files.new }
     ensures store_failed { IsErrOf result StoreFailed → Rose (S.faults files.old) (S.faults files.new) }
+    ensures refused { IfErr result IsPathRefusal }
 {
     let mut movies = Movies::new(alloc);
     match movies.turn(alloc, files, piece.name.as_str()) {
@@ -106,6 +110,7 @@ fn init_in(
 ) -> Result<Vec<u8>, Refusal>
     ensures answers { Answers (λ bytes. bytes.items) result (init_in_movie edits asked piece.now movie.now.movie) }
     ensures store { IsErrOf result StoreFailed → ⊥ }
+    ensures refused { IfErr result IsPathRefusal }
 {
     match check(alloc, piece, movie, edits, asked) {
         Ok(tracks) => written(alloc, &tracks),

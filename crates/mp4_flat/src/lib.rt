@@ -3,18 +3,23 @@
 #![tactic(auto)]
 
 mod answers;
+mod dash_names;
 mod entries;
+mod hls_names;
 mod init;
 mod listing;
 mod lists;
 mod packaging;
 mod packed_names;
+mod packs;
 mod playlist;
 mod requests;
 mod segments;
 mod sequence;
 
+pub use entries::PackEnd;
 pub use flat_segments::FlatBody;
 pub use listing::listed;
-pub use requests::answer;
+pub use packs::pack;
+pub use requests::{answer, answer_ask, built_ask};
 pub use vod_types::Listed;

@@ -1,6 +1,6 @@
 //! The listed segments of a media playlist.
 
-ghost use Rattle.std.specs.Prelude.{◌≡◌, ◌≤◌, false, [], None, length, map, All, IfOk, IfSome, IsErr, IsErrOf, MatchOption};
+ghost use Rattle.std.specs.Prelude.{◌≡◌, ◌≤◌, false, [], None, length, map, All, IfOk, IfSome, IsErr, IsErrOf, MatchOption, IfErr};
 ghost use Rattle.std.specs.Int.{IsInRange};
 ghost use Rattle.std.specs.Result.{result_map_both};
 ghost use Rattle.vod_types.specs.declared.paths.Leaf.TheVariants.{Index};
@@ -14,6 +14,7 @@ ghost use Rattle.flat_lists.specs.Asked.{asking_view, setup_of};
 ghost use Rattle.vod_source.specs.Calls.{Came};
 ghost use Rattle.segment_model.specs.Listing.{listed_view};
 ghost use Rattle.flat_lists.specs.Listings.{HasPart};
+ghost use Rattle.answer_laws.specs.Refusals.{IsPathRefusal};
 ghost use Rattle.mp4_flat.specs.Listings.{AreListed, ask_rows as ask_rows_of, every_path, index_turns};
 
 use crate::sequence::SequenceCut;
@@ -110,6 +111,7 @@ pub(crate) fn sequence_rows<S: Store>(
     ensures content { S.content files.new ≡ S.content files.old }
     ensures later { S.faults files.old ≤ S.faults files.new }
     ensures store_failed { IsErrOf result StoreFailed → Rose (S.faults files.old) (S.faults files.new) }
+    ensures refused { IfErr result IsPathRefusal }
 {
     let cut = match SequenceCut::new(alloc, settings, root, asking, sequence) {
         Ok(cut) => cut,

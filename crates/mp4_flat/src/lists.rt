@@ -11,6 +11,7 @@ ghost use Rattle.list_model.specs.Names.{IsAsked};
 ghost use Rattle.origin_model.specs.Answers.{sequence_iframes as sequence_iframes_of};
 ghost use Rattle.flat_lists.specs.Asked.{asking_view, setup_of};
 ghost use Rattle.flat_lists.specs.Listings.{leaf_turns};
+ghost use Rattle.answer_laws.specs.Refusals.{IsPathRefusal};
 ghost use Rattle.mp4_flat.specs.Flat.{IsLeafAnswer};
 
 use crate::listing::sequence_rows;
@@ -37,6 +38,7 @@ pub(crate) fn master_answer<S: Store>(
     ensures content { S.content files.new ≡ S.content files.old }
     ensures later { S.faults files.old ≤ S.faults files.new }
     ensures store_failed { IsErrOf result StoreFailed → Rose (S.faults files.old) (S.faults files.new) }
+    ensures refused { IfErr result IsPathRefusal }
 {
     match master_playlist(alloc, files, settings, root, asking) {
         Ok(bytes) => Ok(FlatBody { bytes, cut: None }),
@@ -58,6 +60,7 @@ pub(crate) fn description_answer<S: Store>(
     ensures content { S.content files.new ≡ S.content files.old }
     ensures later { S.faults files.old ≤ S.faults files.new }
     ensures store_failed { IsErrOf result StoreFailed → Rose (S.faults files.old) (S.faults files.new) }
+    ensures refused { IfErr result IsPathRefusal }
 {
     match presentation_description(alloc, files, settings, root, asking) {
         Ok(bytes) => Ok(FlatBody { bytes, cut: None }),
@@ -83,6 +86,7 @@ pub(crate) fn index_answer<S: Store>(
     ensures content { S.content files.new ≡ S.content files.old }
     ensures later { S.faults files.old ≤ S.faults files.new }
     ensures store_failed { IsErrOf result StoreFailed → Rose (S.faults files.old) (S.faults files.new) }
+    ensures refused { IfErr result IsPathRefusal }
 {
     let rows = match sequence_rows(alloc, files, settings, root, asking, sequence, asked) {
         Ok(rows) => rows,
@@ -112,6 +116,7 @@ pub(crate) fn iframes_answer<S: Store>(
     ensures content { S.content files.new ≡ S.content files.old }
     ensures later { S.faults files.old ≤ S.faults files.new }
     ensures store_failed { IsErrOf result StoreFailed → Rose (S.faults files.old) (S.faults files.new) }
+    ensures refused { IfErr result IsPathRefusal }
 {
     let rows = match sequence_iframes(alloc, files, settings, root, asking, sequence, video) {
         Ok(rows) => rows,
@@ -139,6 +144,7 @@ fn sequence_iframes<S: Store>(
     ensures content { S.content files.new ≡ S.content files.old }
     ensures later { S.faults files.old ≤ S.faults files.new }
     ensures store_failed { IsErrOf result StoreFailed → Rose (S.faults files.old) (S.faults files.new) }
+    ensures refused { IfErr result IsPathRefusal }
 {
     let cut = match SequenceCut::new(alloc, settings, root, asking, sequence) {
         Ok(cut) => cut,

@@ -102,8 +102,8 @@ fn is_list(leaf: Leaf) -> bool
     }
 }
 
-// Whether the store failed or memory ran out.
-fn has_failed(refusal: &Refusal) -> bool
+/// Whether the store failed or memory ran out.
+pub(crate) fn has_failed(refusal: &Refusal) -> bool
     ensures failed { result ≡ true → refusal.now ≢ NoMemory → refusal.now ≢ StoreFailed → ⊥ }
     ensures memory { result ≡ false → refusal.now ≢ NoMemory }
     ensures store { result ≡ false → refusal.now ≢ StoreFailed }

@@ -1,10 +1,12 @@
 //! The names that lists name.
 
-ghost use Rattle.std.specs.Prelude.{◌≡◌, ◌++◌, ◌∷◌, [], OnOk, IfErr, filter, map};
+ghost use Rattle.std.specs.Prelude.{◌≡◌, ◌≤◌, ◌++◌, ◌∷◌, [], All, Bool, false, OnOk, IfErr, filter, map};
 ghost use Rattle.vod_types.specs.declared.paths.Leaf.TheVariants.{Init, Segment};
 ghost use Rattle.vod_types.specs.declared.refusal.Refusal.TheVariants.{NoMemory};
+ghost use Rattle.list_model.specs.Names.{IsAsked, IsFormOf};
 ghost use Rattle.list_model.specs.Pack.{playlist_leaves};
-ghost use Rattle.list_model.specs.Playlist.{segment_form as segment_form_of};
+ghost use Rattle.list_model.specs.Playlist.{HasRowNumbers, segment_form as segment_form_of};
+ghost use Rattle.mp4_flat.specs.Packed.{IsName, named_inits};
 
 use vod_types::{Asked, Form, Leaf, Refusal, SegmentRow};
 
@@ -17,18 +19,39 @@ pub(crate) fn push_playlist(
     asked: Asked,
     fmp4: bool,
 ) -> Result<(), Refusal>
+    requires parts { All HasRowNumbers rows.now }
+    requires sequence { sequence ≤ 9999 }
+    requires asked { IsAsked asked }
     ensures names { OnOk result (names.new.items ≡ names.old.items ++ playlist_leaves fmp4 sequence asked rows.now) }
+    ensures each { OnOk result (All (IsName false) names.old.items → All (IsName false) names.new.items) }
+    ensures only { IfErr result (λ refusal. refusal ≡ NoMemory) }
+{
+    push_named_inits(names, rows, sequence, asked, fmp4)?;
+    push_segments(names, rows, sequence, asked, segment_form(fmp4))
+}
+
+// Appends the init segments that the playlist names.
+fn push_named_inits(
+    names: &mut Vec<Leaf>,
+    rows: &[SegmentRow],
+    sequence: u32,
+    asked: Asked,
+    fmp4: bool,
+) -> Result<(), Refusal>
+    ensures names { OnOk result (names.new.items ≡ names.old.items ++ named_inits fmp4 sequence asked rows.now) }
     ensures only { IfErr result (λ refusal. refusal ≡ NoMemory) }
 {
     if fmp4 {
-        push_inits(names, rows, sequence, asked)?;
+        push_inits(names, rows, sequence, asked)
+    } else {
+        Ok(())
     }
-    push_segments(names, rows, sequence, asked, segment_form(fmp4))
 }
 
 // The form of the segments of a playlist.
 fn segment_form(fmp4: bool) -> Form
-    ensures { result ≡ segment_form_of fmp4 }
+    ensures form { result ≡ segment_form_of fmp4 }
+    ensures of { IsFormOf false result }
 {
     if fmp4 { Form::Fmp4 } else { Form::Ts }
 }
@@ -58,34 +81,55 @@ fn push_inits(
     Ok(())
 }
 
-// Appends these segments.
-fn push_segments(
+/// Appends these segments. The only refusal is `NoMemory`.
+pub(crate) fn push_segments(
     names: &mut Vec<Leaf>,
     rows: &[SegmentRow],
     sequence: u32,
     asked: Asked,
     form: Form,
 ) -> Result<(), Refusal>
+    requires sequence { sequence ≤ 9999 }
+    requires asked { IsAsked asked }
     ensures names { OnOk result (names.new.items ≡ names.old.items ++ map (λ row. Segment row.number sequence asked form) rows.now) }
+    ensures each { OnOk result ((dash : Bool) → IsFormOf dash form → All (IsName dash) names.old.items → All (IsName dash) names.new.items) }
     ensures only { IfErr result (λ refusal. refusal ≡ NoMemory) }
 {
     for row in rows {
-        push(
-            names,
-            Leaf::Segment {
-                number: row.number,
-                sequence,
-                asked,
-                form,
-            },
-        )?;
+        push_segment(names, row.number, sequence, asked, form)?;
     }
     Ok(())
 }
 
-// Appends a name. The only refusal is `NoMemory`.
-fn push(names: &mut Vec<Leaf>, leaf: Leaf) -> Result<(), Refusal>
+// Appends the segment of a number.
+fn push_segment(
+    names: &mut Vec<Leaf>,
+    number: u32,
+    sequence: u32,
+    asked: Asked,
+    form: Form,
+) -> Result<(), Refusal>
+    requires sequence { sequence ≤ 9999 }
+    requires asked { IsAsked asked }
+    ensures names { OnOk result (names.new.items ≡ names.old.items ++ Segment number sequence asked form ∷ []) }
+    ensures each { OnOk result ((dash : Bool) → IsFormOf dash form → All (IsName dash) names.old.items → All (IsName dash) names.new.items) }
+    ensures only { IfErr result (λ refusal. refusal ≡ NoMemory) }
+{
+    push(
+        names,
+        Leaf::Segment {
+            number,
+            sequence,
+            asked,
+            form,
+        },
+    )
+}
+
+/// Appends a name. The only refusal is `NoMemory`.
+pub(crate) fn push(names: &mut Vec<Leaf>, leaf: Leaf) -> Result<(), Refusal>
     ensures names { OnOk result (names.new.items ≡ names.old.items ++ leaf ∷ []) }
+    ensures each { OnOk result ((dash : Bool) → IsName dash leaf → All (IsName dash) names.old.items → All (IsName dash) names.new.items) }
     ensures only { IfErr result (λ refusal. refusal ≡ NoMemory) }
 {
     match names.push(leaf) {

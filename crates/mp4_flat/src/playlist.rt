@@ -34,8 +34,8 @@ pub(crate) fn playlist_of(
     }
 }
 
-// The rows of listed segments. The only refusal is `NoMemory`.
-fn rows_of(alloc: Global, listed: &[Listed]) -> Result<Vec<SegmentRow>, Refusal>
+/// The rows of listed segments. The only refusal is `NoMemory`.
+pub(crate) fn rows_of(alloc: Global, listed: &[Listed]) -> Result<Vec<SegmentRow>, Refusal>
     ensures rows { IfOk result (λ rows. rows.items ≡ map (λ l. l.row) listed.now) }
     ensures only { IfErr result (λ refusal. refusal ≡ NoMemory) }
 {

@@ -1,16 +1,15 @@
 //! What a path is answered with.
 
-ghost use Rattle.std.specs.Prelude.{◌≡◌, ◌≤◌, true, IfSome, IsErr, IsErrOf, length};
-ghost use Rattle.std.specs.Int.{IsInRange};
+ghost use Rattle.std.specs.Prelude.{◌≡◌, ◌≢◌, ◌≤◌, true, IfErr, IfOk, IfSome, IsErr, IsErrOf};
 ghost use Rattle.vod_source.specs.Causes.{Rose};
+ghost use Rattle.vod_types.specs.Results.{Answers};
 ghost use Rattle.vod_types.specs.declared.refusal.Refusal.TheVariants.{StoreFailed};
-ghost use Rattle.list_model.specs.Names.{IsLeafOf};
-ghost use Rattle.list_model.specs.Path.{is_dash};
 ghost use Rattle.origin_model.specs.Answers.{readable};
-ghost use Rattle.origin_model.specs.Requests.{target_names};
+ghost use Rattle.answer_laws.specs.Refusals.{IsPathRefusal};
 ghost use Rattle.flat_lists.specs.Asked.{setup_of};
-ghost use Rattle.mp4_flat.specs.Built.{built_paths, is_built_leaf};
-ghost use Rattle.mp4_flat.specs.Flat.{IsFlatAnswer, IsAskAnswer};
+ghost use Rattle.flat_segments.specs.Bodies.{IsInPackets};
+ghost use Rattle.mp4_flat.specs.Built.{built_paths, is_built_leaf, IsBuiltAsk};
+ghost use Rattle.mp4_flat.specs.Flat.{is_stream, IsFlatAnswer, IsAskAnswer};
 
 use crate::answers::{leaf_answer, unbuilt};
 use flat_lists::asking_of;
@@ -23,8 +22,8 @@ use vod_urls::read_path;
 /// Answers a path with the settings `settings`, over the files below `root`.
 ///
 /// It is refused by the first cause in the order of refusals; a path of the grammar whose form isn't built yet, that of a
-/// clip or of a media presentation description, is refused as `Unsupported`, name `form`, before any call on the store. A
-/// failure of the store is `StoreFailed`, want of memory `NoMemory`.
+/// clip, is refused as `Unsupported`, name `form`, before any call on the store. A failure of the store is `StoreFailed`, want
+/// of memory `NoMemory`.
 pub fn answer<S: Store>(
     alloc: Global,
     files: &mut S,
@@ -41,6 +40,20 @@ pub fn answer<S: Store>(
     ensures later { S.faults files.old ≤ S.faults files.new }
     ensures store_failed { IsErrOf result StoreFailed → Rose (S.faults files.old) (S.faults files.new) }
 {
+    match built_ask(alloc, path) {
+        Ok(ask) => answer_ask(alloc, files, settings, root, ask),
+        Err(refusal) => Err(refusal),
+    }
+}
+
+/// What a path asks for, where its form is built. It is refused as `BadPath` where it isn't in the grammar, and a form that
+/// isn't built yet as `Unsupported`, name `form`.
+pub fn built_ask(alloc: Global, path: &[u8]) -> Result<Ask, Refusal>
+    ensures answers { Answers (λ ask. ask) result (readable built_paths path.now) }
+    ensures built { IfOk result IsBuiltAsk }
+    ensures none_failed { IfErr result (λ refusal. refusal ≢ StoreFailed) }
+    ensures refused { IfErr result IsPathRefusal }
+{
     let ask = match read_path(alloc, path) {
         Ok(ask) => ask,
         Err(refusal) => return Err(refusal),
@@ -48,7 +61,7 @@ pub fn answer<S: Store>(
     if !is_built(&ask) {
         return Err(unbuilt(alloc));
     }
-    answer_ask(alloc, files, settings, root, ask)
+    Ok(ask)
 }
 
 #[tactic(auto, unfolding(crate::specs::Built::built_paths))]
@@ -63,31 +76,33 @@ fn is_built_leaf(leaf: Leaf) -> bool
 {
     match leaf {
         Leaf::Master
+        | Leaf::Mpd
         | Leaf::Index { .. }
         | Leaf::Init { .. }
         | Leaf::Segment { .. }
         | Leaf::Iframes { .. }
         | Leaf::Iframe { .. } => true,
-        Leaf::Mpd | Leaf::Clip { .. } => false,
+        Leaf::Clip { .. } => false,
     }
 }
 
-// Answers a request whose form is built.
-fn answer_ask<S: Store>(
+/// Answers a request whose form is built, in the same way as its path. Of every store its refusals are those that a path may have,
+/// and a transport stream is whole packets of 188 bytes.
+pub fn answer_ask<S: Store>(
     alloc: Global,
     files: &mut S,
     settings: &Settings,
     root: &str,
     ask: Ask,
 ) -> Result<FlatBody, Refusal>
-    requires built { is_built_leaf ask.leaf ≡ true }
-    requires leaf { IsLeafOf (is_dash ask.place) ask.leaf }
-    requires names { IsInRange 1 32 (length (target_names ask.target)) }
+    requires { IsBuiltAsk ask }
     ensures told { IfSome (S.content files.old) (λ known.
         IsAskAnswer (setup_of settings.now root.now known) ask result (S.log files.old) (S.log files.new)) }
     ensures content { S.content files.new ≡ S.content files.old }
     ensures later { S.faults files.old ≤ S.faults files.new }
     ensures store_failed { IsErrOf result StoreFailed → Rose (S.faults files.old) (S.faults files.new) }
+    ensures refused { IfErr result IsPathRefusal }
+    ensures packets { is_stream ask.leaf ≡ true → IfOk result IsInPackets }
 {
     let leaf = ask.leaf;
     let asking = match asking_of(alloc, files, root, ask) {

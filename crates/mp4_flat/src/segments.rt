@@ -1,10 +1,13 @@
 //! The answers of init segments, segments and single I-frames.
 
-ghost use Rattle.std.specs.Prelude.{◌≡◌, ◌≤◌, IfSome, IsErrOf};
+ghost use Rattle.std.specs.Prelude.{◌≡◌, ◌≤◌, IfSome, IfErr, IfOk, IsErrOf};
 ghost use Rattle.vod_types.specs.declared.paths.Leaf.TheVariants as leaves;
 ghost use Rattle.vod_types.specs.declared.refusal.Refusal.TheVariants.{StoreFailed};
 ghost use Rattle.vod_source.specs.Causes.{Rose};
+ghost use Rattle.vod_types.specs.declared.segments.Form.TheVariants.{Ts};
+ghost use Rattle.flat_segments.specs.Bodies.{IsInPackets};
 ghost use Rattle.flat_lists.specs.Asked.{asking_view, setup_of};
+ghost use Rattle.answer_laws.specs.Refusals.{IsPathRefusal};
 ghost use Rattle.mp4_flat.specs.Flat.{IsLeafAnswer};
 
 use crate::init::init_of_part;
@@ -32,6 +35,7 @@ pub(crate) fn init_answer<S: Store>(
     ensures content { S.content files.new ≡ S.content files.old }
     ensures later { S.faults files.old ≤ S.faults files.new }
     ensures store_failed { IsErrOf result StoreFailed → Rose (S.faults files.old) (S.faults files.new) }
+    ensures refused { IfErr result IsPathRefusal }
 {
     let timeline = match asking.timeline(alloc, root, sequence) {
         Ok(timeline) => timeline,
@@ -61,6 +65,8 @@ pub(crate) fn segment_answer<S: Store>(
     ensures content { S.content files.new ≡ S.content files.old }
     ensures later { S.faults files.old ≤ S.faults files.new }
     ensures store_failed { IsErrOf result StoreFailed → Rose (S.faults files.old) (S.faults files.new) }
+    ensures refused { IfErr result IsPathRefusal }
+    ensures packets { form ≡ Ts → IfOk result IsInPackets }
 {
     let cut = match SequenceCut::new(alloc, settings, root, asking, sequence) {
         Ok(cut) => cut,
@@ -91,6 +97,8 @@ pub(crate) fn iframe_answer<S: Store>(
     ensures content { S.content files.new ≡ S.content files.old }
     ensures later { S.faults files.old ≤ S.faults files.new }
     ensures store_failed { IsErrOf result StoreFailed → Rose (S.faults files.old) (S.faults files.new) }
+    ensures refused { IfErr result IsPathRefusal }
+    ensures packets { IfOk result IsInPackets }
 {
     let cut = match SequenceCut::new(alloc, settings, root, asking, sequence) {
         Ok(cut) => cut,

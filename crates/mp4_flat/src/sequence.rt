@@ -2,6 +2,7 @@
 
 ghost use Rattle.std.specs.Prelude.{◌≡◌, ◌≢◌, IfErr, IfOk, not};
 ghost use Rattle.vod_types.specs.declared.refusal.Refusal.TheVariants.{StoreFailed};
+ghost use Rattle.answer_laws.specs.Refusals.{IsPathRefusal};
 
 use flat_lists::Asking;
 use flat_segments::Cut;
@@ -37,6 +38,7 @@ impl SequenceCut {
         ensures align { IfOk result (λ s. s.align ≡ settings.now.align) }
         ensures edits { IfOk result (λ s. s.edits ≡ not settings.now.ignore_edits) }
         ensures not_failed { IfErr result (λ refusal. refusal ≢ StoreFailed) }
+        ensures refused { IfErr result IsPathRefusal }
     {
         let timeline = match asking.timeline(alloc, root, sequence) {
             Ok(timeline) => timeline,

@@ -1,4 +1,4 @@
-use Rattle.std.proofs.Common.{Ok, Err, ◌∙◌}
+use Rattle.std.proofs.Common.{Ok, Err, refl, ◌∙◌}
 use Rattle.vod_types.specs.declared.paths.Leaf.TheVariants.{Iframe}
 use Rattle.vod_types.specs.declared.segments.Form.TheVariants.{Ts}
 use Rattle.vod_types.specs.Tracks.{video_alone}
@@ -36,3 +36,6 @@ returns-clause-told g c =
     rows_written o a (Iframe c.args.number c.args.index c.args.sequence c.args.video) (lone_iframe o a c.args.number c.args.index c.args.sequence c.args.video) c.args.number (video_alone c.args.video) Ts (iframe_is o a c.args.number c.args.index c.args.sequence c.args.video) (iframe_sampled o a c.args.number c.args.index c.args.sequence c.args.video) c.in-Ok-iframe_row.row c.segment_body.result _ _ _
     (timed o a c.args.sequence (lone_iframe o a c.args.number c.args.index c.args.sequence c.args.video) (leaf_turns o a (Iframe c.args.number c.args.index c.args.sequence c.args.video)) (iframe_plan o a c.args.sequence c.args.number c.args.index c.args.video) (iframe_looked o a c.args.sequence c.args.number c.args.index c.args.video) flat_plan (iframe_planned o a c.args.sequence c.args.number c.args.index c.args.video) (iframe_turned o a c.args.sequence c.args.number c.args.index c.args.video) _ _ _ (Ok c.in-Ok-iframe_row.row) _ _
     c.in-Ok.ensures.timeline c.cut.ensures.timeline (recut_as known _ _ _ _ _ _ (c.cut.ensures.grid ∙ c.in-Ok.ensures.grid) (c.cut.ensures.align ∙ c.in-Ok.ensures.align) (c.cut.ensures.edits ∙ c.in-Ok.ensures.edits)) came) body)
+
+pub returns-clause-packets : goal.returns-clause-packets
+returns-clause-packets g c = c.segment_body.ensures.packets refl
