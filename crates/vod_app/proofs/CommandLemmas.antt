@@ -5,7 +5,9 @@ use Rattle.std.proofs.lemmas.Slice.Eq.{bytes_eq-Decides}
 use Rattle.vod_types.specs.Numbers.{number_up_to}
 use Rattle.vod_types.specs.Options.{passing}
 use Rattle.list_model.specs.Command.{Command, Requested, get, reads, plan, pack, serve, turns, rehearse, ServingForm, command_of, none_empty}
-use Rattle.vod_app.specs.Commands.{is_built, built_command}
+use Rattle.vod_app.specs.declared.words.Order.{Order}
+use Rattle.vod_app.specs.declared.words.Order.TheVariants as orders
+use Rattle.vod_app.specs.Commands.{is_built, built_command, count_up_to, order_of_form, serving}
 
 -- the command of four words, none of which is empty, by what the first one is
 abbrev form_found : Bool → Bool → Bool → Bool → Requested → Option Command
@@ -16,11 +18,6 @@ form_found is_get is_reads is_plan is_pack q =
     else (if is_reads then Some (codes "reads", reads)
     else (if is_plan then Some (codes "plan", plan)
     else (if is_pack then Some (codes "pack", pack) else None)))))
-
-other_form : (is_reads is_pack : Bool) (q : Requested) → form_found false is_reads false is_pack q ≡ None
-other_form true is_pack q = refl
-other_form false true q = refl
-other_form false false q = refl
 
 of_four : (all : Bool) (is_get is_reads is_plan is_pack : Bool) (q : Requested)
     → option_and_then (passing is_built) (if all then (option_map (λ (form : List ℕ × (Requested → Command)). form.1 q)
@@ -43,15 +40,13 @@ built_command-four word root settings path =
     of_four (none_empty (root ∷ settings ∷ path ∷ [])) (bytes_eq (codes "get") word) (bytes_eq (codes "reads") word) (bytes_eq (codes "plan") word)
     (bytes_eq (codes "pack") word) (record { root = root; settings = settings; path = path })
 
--- the words of another form, also of one that isn't built, spell nothing
-pub built-other : (word root settings path : List ℕ) → bytes_eq (codes "get") word ≡ false → bytes_eq (codes "plan") word ≡ false
-    → built_command (word ∷ root ∷ settings ∷ path ∷ []) ≡ None
-built-other word root settings path e f =
+-- the words of another form spell nothing
+pub built-other : (word root settings path : List ℕ) → bytes_eq (codes "get") word ≡ false → bytes_eq (codes "reads") word ≡ false → bytes_eq (codes "plan") word ≡ false
+    → bytes_eq (codes "pack") word ≡ false → built_command (word ∷ root ∷ settings ∷ path ∷ []) ≡ None
+built-other word root settings path e f g h =
     let q : Requested = record { root = root; settings = settings; path = path } in
-    let is_reads = bytes_eq (codes "reads") word in
-    let is_pack = bytes_eq (codes "pack") word in
     built_command-four word root settings path
-    ∙ (rw (e, f) (none_either (none_empty (root ∷ settings ∷ path ∷ [])) (form_found false is_reads false is_pack q) (other_form is_reads is_pack q)))
+    ∙ (rw (e, f, g, h) (none_either (none_empty (root ∷ settings ∷ path ∷ [])) (form_found false false false false q) refl))
   where
     none_either : (all : Bool) (found : Option Command) → found ≡ None → (if all then found else None) ≡ None
     none_either true found h = h
@@ -71,40 +66,67 @@ pub built-plan : (root settings path : List ℕ) → none_empty (root ∷ settin
     → built_command (codes "plan" ∷ root ∷ settings ∷ path ∷ []) ≡ Some (plan (record { root = root; settings = settings; path = path }))
 built-plan root settings path e = built_command-four (codes "plan") root settings path ∙ rw e refl
 
--- words of another number
-count_unbuilt : (command : ℕ → Command) → ((n : ℕ) → is_built (command n) ≡ false) → (found : Option ℕ)
-    → option_and_then (passing is_built) (option_and_then (λ n. if n == 0 then None else Some (command n)) found) ≡ None
-count_unbuilt command h None = refl
-count_unbuilt command h (Some n) = by_count (n == 0)
+-- the words of `reads`
+pub built-reads : (root settings path : List ℕ) → none_empty (root ∷ settings ∷ path ∷ []) ≡ true
+    → built_command (codes "reads" ∷ root ∷ settings ∷ path ∷ []) ≡ Some (reads (record { root = root; settings = settings; path = path }))
+built-reads root settings path e = built_command-four (codes "reads") root settings path ∙ rw e refl
+
+-- the words of `pack`
+pub built-pack : (root settings path : List ℕ) → none_empty (root ∷ settings ∷ path ∷ []) ≡ true
+    → built_command (codes "pack" ∷ root ∷ settings ∷ path ∷ []) ≡ Some (pack (record { root = root; settings = settings; path = path }))
+built-pack root settings path e = built_command-four (codes "pack") root settings path ∙ rw e refl
+
+-- ---- five words
+
+-- a count is at least 1
+counted : (command : ℕ → Command) → ((n : ℕ) → is_built (command n) ≡ true) → (found : Option ℕ)
+    → option_and_then (passing is_built) (option_and_then (λ n. if n == 0 then None else Some (command n)) found)
+    ≡ option_map command (option_and_then (λ n. if n == 0 then None else Some n) found)
+counted command h None = refl
+counted command h (Some n) = by_count (n == 0)
   where
-    by_count : (is_none : Bool) → option_and_then (passing is_built) (if is_none then None else Some (command n)) ≡ None
+    by_count : (is_none : Bool) → option_and_then (passing is_built) (if is_none then None else Some (command n)) ≡ option_map command (if is_none then None else Some n)
     by_count true = refl
     by_count false = ap (λ b. if b then Some (command n) else None) (h n)
 
-pub other_number : (words : List (List ℕ)) → length words ≢ 4 → built_command words ≡ None
+-- the command of five words, none of which is empty, by its order
+abbrev service_found : List ℕ → List ℕ → List ℕ → List ℕ → Option (Order × ℕ) → Option Command
+service_found root settings addr count order =
+    option_and_then (λ (of : Order × ℕ). option_map (λ n. serving of.0 root settings addr n) (count_up_to of.1 count)) order
+
+module _ (root settings addr count : List ℕ) where
+  of_five : (all is_serve is_turns : Bool)
+      → option_and_then (passing is_built)
+      (if all then option_and_then (λ (form : ServingForm). option_and_then (λ n. if n == 0 then None else Some (form.command root settings addr n)) (number_up_to form.most count))
+      (if is_serve then Some (record { word = codes "serve"; most = 4294967295; command = serve })
+      else (if is_turns then Some (record { word = codes "turns"; most = 64; command = turns }) else None)) else None)
+      ≡ (if all then service_found root settings addr count (if is_serve then Some (orders.OneByOne, 4294967295) else (if is_turns then Some (orders.InTurns, 64) else None)) else None)
+  of_five false is_serve is_turns = refl
+  of_five true true is_turns = counted (serve root settings addr) (λ n. refl) (number_up_to 4294967295 count)
+  of_five true false true = counted (turns root settings addr) (λ n. refl) (number_up_to 64 count)
+  of_five true false false = refl
+
+  built_command-five : (word : List ℕ)
+      → built_command (word ∷ root ∷ settings ∷ addr ∷ count ∷ [])
+      ≡ (if none_empty (root ∷ settings ∷ addr ∷ []) then service_found root settings addr count (order_of_form word) else None)
+  unfolding built_command command_of
+  built_command-five word = of_five (none_empty (root ∷ settings ∷ addr ∷ [])) (bytes_eq (codes "serve") word) (bytes_eq (codes "turns") word)
+
+-- words of another number
+pub other_number : (words : List (List ℕ)) → length words ≢ 4 → length words ≢ 5 → built_command words ≡ None
 unfolding built_command command_of
-other_number [] h = refl
-other_number (a ∷ []) h = refl
-other_number (a ∷ b ∷ []) h = none_of (bytes_eq a (codes "rehearse")) (number_up_to 4294967295 b)
+other_number [] h i = refl
+other_number (a ∷ []) h i = refl
+other_number (a ∷ b ∷ []) h i = none_of (bytes_eq a (codes "rehearse")) (number_up_to 4294967295 b)
   where
     none_of : (is_rehearse : Bool) (n : Option ℕ) → option_and_then (passing is_built) (if is_rehearse then option_map rehearse n else None) ≡ None
     none_of true None = refl
     none_of true (Some n) = refl
     none_of false n = refl
-other_number (a ∷ b ∷ c ∷ []) h = refl
-other_number (a ∷ b ∷ c ∷ d ∷ []) h = absurd (h refl)
-other_number (a ∷ b ∷ c ∷ d ∷ e ∷ []) h = by_test (none_empty (b ∷ c ∷ d ∷ [])) (bytes_eq (codes "serve") a) (bytes_eq (codes "turns") a)
-  where
-    by_test : (all is_serve is_turns : Bool)
-        → option_and_then (passing is_built)
-        (if all then option_and_then (λ (form : ServingForm). option_and_then (λ n. if n == 0 then None else Some (form.command b c d n)) (number_up_to form.most e))
-        (if is_serve then Some (record { word = codes "serve"; most = 4294967295; command = serve })
-        else (if is_turns then Some (record { word = codes "turns"; most = 64; command = turns }) else None)) else None) ≡ None
-    by_test false is_serve is_turns = refl
-    by_test true true is_turns = count_unbuilt (serve b c d) (λ n. refl) (number_up_to 4294967295 e)
-    by_test true false true = count_unbuilt (turns b c d) (λ n. refl) (number_up_to 64 e)
-    by_test true false false = refl
-other_number (a ∷ b ∷ c ∷ d ∷ e ∷ f ∷ words) h = refl
+other_number (a ∷ b ∷ c ∷ []) h i = refl
+other_number (a ∷ b ∷ c ∷ d ∷ []) h i = absurd (h refl)
+other_number (a ∷ b ∷ c ∷ d ∷ e ∷ []) h i = absurd (i refl)
+other_number (a ∷ b ∷ c ∷ d ∷ e ∷ f ∷ words) h i = refl
 
 -- four words by their places
 pub four_words : {X : Type 0} (words : List X) (a b c d : X) → length words ≡ 4 → a ≡ get_or words 0 a → b ≡ get_or words 1 b → c ≡ get_or words 2 c → d ≡ get_or words 3 d
@@ -126,8 +148,10 @@ differs a b other = by_test (bytes_eq b a) refl
     by_test false e = e
     by_test true e = absurd (other (sym ((bytes_eq-Decides b a).0 e)))
 
-pub other_word : (word root settings path : List ℕ) → word ≢ codes "get" → word ≢ codes "plan" → built_command (word ∷ root ∷ settings ∷ path ∷ []) ≡ None
-other_word word root settings path h i = built-other word root settings path (differs word (codes "get") h) (differs word (codes "plan") i)
+pub other_word : (word root settings path : List ℕ) → word ≢ codes "get" → word ≢ codes "reads" → word ≢ codes "plan" → word ≢ codes "pack"
+    → built_command (word ∷ root ∷ settings ∷ path ∷ []) ≡ None
+other_word word root settings path h i j k =
+    built-other word root settings path (differs word (codes "get") h) (differs word (codes "reads") i) (differs word (codes "plan") j) (differs word (codes "pack") k)
 
 -- one of three words is empty
 and_false : (a b c : Bool) → (true ≡ a) ⊎ (true ≡ b) ⊎ (true ≡ c) → (not a && (not b && (not c && true))) ≡ false
@@ -159,3 +183,45 @@ module _ (word root settings path : List ℕ) (root_some : false ≡ (length roo
 
   pub plan_words : word ≡ codes "plan" → built_command (word ∷ root ∷ settings ∷ path ∷ []) ≡ Some (plan (record { root = root; settings = settings; path = path }))
   plan_words e = ap (λ w. built_command (w ∷ root ∷ settings ∷ path ∷ [])) e ∙ built-plan root settings path none_is
+
+  pub reads_words : word ≡ codes "reads" → built_command (word ∷ root ∷ settings ∷ path ∷ []) ≡ Some (reads (record { root = root; settings = settings; path = path }))
+  reads_words e = ap (λ w. built_command (w ∷ root ∷ settings ∷ path ∷ [])) e ∙ built-reads root settings path none_is
+
+  pub pack_words : word ≡ codes "pack" → built_command (word ∷ root ∷ settings ∷ path ∷ []) ≡ Some (pack (record { root = root; settings = settings; path = path }))
+  pack_words e = ap (λ w. built_command (w ∷ root ∷ settings ∷ path ∷ [])) e ∙ built-pack root settings path none_is
+
+-- ---- five words in the forms in which the code tests them
+
+pub empty_in_service : (word root settings addr count : List ℕ)
+    → (true ≡ (length root == 0)) ⊎ (true ≡ (length settings == 0)) ⊎ (true ≡ (length addr == 0))
+    → built_command (word ∷ root ∷ settings ∷ addr ∷ count ∷ []) ≡ None
+empty_in_service word root settings addr count h =
+    let none = and_false (length root == 0) (length settings == 0) (length addr == 0) h in
+    built_command-five root settings addr count word ∙ ap (λ b. if b then service_found root settings addr count (order_of_form word) else None) none
+
+module _ (word root settings addr count : List ℕ) (root_some : false ≡ (length root == 0)) (settings_some : false ≡ (length settings == 0)) (addr_some : false ≡ (length addr == 0)) where
+  some_is : built_command (word ∷ root ∷ settings ∷ addr ∷ count ∷ []) ≡ service_found root settings addr count (order_of_form word)
+  some_is =
+      let all = and_true (length root == 0) (length settings == 0) (length addr == 0) root_some settings_some addr_some in
+      built_command-five root settings addr count word ∙ ap (λ b. if b then service_found root settings addr count (order_of_form word) else None) all
+
+  pub no_order : None ≡ order_of_form word → built_command (word ∷ root ∷ settings ∷ addr ∷ count ∷ []) ≡ None
+  no_order e = some_is ∙ ap (service_found root settings addr count) (sym e)
+
+  pub no_count : (order : Order) (most : ℕ) → Some (order, most) ≡ order_of_form word → None ≡ count_up_to most count
+      → built_command (word ∷ root ∷ settings ∷ addr ∷ count ∷ []) ≡ None
+  no_count order most e f = some_is ∙ ap (service_found root settings addr count) (sym e) ∙ ap (λ found. option_map (λ n. serving order root settings addr n) found) (sym f)
+
+  pub service_words : (order : Order) (most n : ℕ) → Some (order, most) ≡ order_of_form word → Some n ≡ count_up_to most count
+      → built_command (word ∷ root ∷ settings ∷ addr ∷ count ∷ []) ≡ Some (serving order root settings addr n)
+  service_words order most n e f = some_is ∙ ap (service_found root settings addr count) (sym e) ∙ ap (λ found. option_map (λ n. serving order root settings addr n) found) (sym f)
+
+-- the orders
+pub order_serve : (word : List ℕ) → word ≡ codes "serve" → Some (orders.OneByOne, 4294967295) ≡ order_of_form word
+order_serve word e = ap order_of_form (sym e)
+
+pub order_turns : (word : List ℕ) → word ≡ codes "turns" → Some (orders.InTurns, 64) ≡ order_of_form word
+order_turns word e = ap order_of_form (sym e)
+
+pub order_none : (word : List ℕ) → word ≢ codes "serve" → word ≢ codes "turns" → None ≡ order_of_form word
+order_none word h i = rw (differs word (codes "serve") h, differs word (codes "turns") i) refl

@@ -1,3 +1,5 @@
 pub mod CommandLemmas
 pub mod RunLemmas
 pub mod SettingsReadLemmas
+pub mod ServiceLemmas
+mod ReadsLemmas

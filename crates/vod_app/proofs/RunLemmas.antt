@@ -9,7 +9,8 @@ use Rattle.vod_types.specs.Settled.{Settled}
 use Rattle.list_model.specs.Command.{Outcome, Requested, plan_text, done, usage, refused, no_memory, store_failed, sink_failed, door_failed}
 use Rattle.list_model.specs.Reply.{Answer}
 use Rattle.origin_model.specs.Answers.{answer, path_rows}
-use Rattle.origin_model.specs.Outcomes.{AreRequestReads, Due, GainsDue, GainsReads, due_answer, due_rows, get_due, plan_due, run_setup, settings_reads, setup_with}
+use Rattle.origin_model.specs.Outcomes.{AreRequestReads, Due, GainsDue, GainsReads, due_answer, due_rows, due_with, get_due, pack_due, plan_due, run_setup, settings_reads, setup_with}
+use Rattle.origin_model.specs.Packaging.{packed_path}
 use Rattle.origin_model.specs.Reads.{AreReads, for_rows, path_reads}
 use Rattle.origin_model.specs.Requests.{Setup}
 use Rattle.vod_types.specs.declared.segments.Listed.{Listed}
@@ -17,7 +18,10 @@ use Rattle.vod_source.specs.Calls.{LogsReads}
 use Rattle.mp4_flat.specs.Flat.{IsFlatAnswer, flat_seen}
 use Rattle.segment_model.specs.Listing.{listed_view}
 use Rattle.mp4_flat.specs.Listings.{AreListed, every_path}
-use Rattle.vod_app.specs.Runs.{AreSettingsRead, IsAnswerWritten, IsGet, IsPlan, IsPlanWritten, IsRun, IsWritten, refused_outcome}
+use Rattle.mp4_flat.specs.Packed.{IsPackedAs}
+use Rattle.mp4_flat.specs.declared.entries.PackEnd.{PackEnd}
+use Rattle.mp4_flat.specs.declared.entries.PackEnd.TheVariants.{Whole, Refused, SinkFailed}
+use Rattle.vod_app.specs.Runs.{AreSettingsRead, IsAnswerWritten, IsGet, IsPack, IsPackWritten, IsPlan, IsPlanWritten, IsRun, IsWritten, pack_outcome, refused_outcome}
 use Rattle.vod_source.specs.Stored.{Files, Read}
 use Rattle.vod_source.specs.Told.{told_with, GrewByPrefix}
 use Rattle.vod_source.proofs.ToldLemmas.{told_with-nil, told_with-more, GrewByPrefix-same, GrewByPrefix-after, GrewByPrefix-more, GrewByPrefix-whole}
@@ -69,11 +73,11 @@ by_refusal P memory store other r = other r (λ e. cc) (λ e. cc)
 
 -- nothing is written, and what was read is in the log
 module _ (due : Due) (reads : List Read) (out : Option (List ℕ)) (log log_now : Option (List Read)) where
-  abbrev Gained : Refusal → Outcome → Type 0
+  abbrev pub Gained : Refusal → Outcome → Type 0
   Gained r outcome = (r ≢ NoMemory → r ≢ StoreFailed → due ≡ ([], Some r)) → LogsReads {X = List ℕ} (Err r) reads log log_now
       → GainsDue due outcome out out × GainsReads reads outcome log log_now
 
-  gained_refused : (r : Refusal) → Gained r (refused_outcome r)
+  pub gained_refused : (r : Refusal) → Gained r (refused_outcome r)
   gained_refused =
       by_refusal Gained
       (λ refuses logged. (GrewByPrefix-same out out due.0 refl, logged.0))
@@ -95,11 +99,11 @@ written_refused {due} {built} {o} {with_body} {path} reads r outcome out log log
 -- ---- a whole run
 
 -- the reads that a request may make, whatever was refused before
-abbrev some_reads : (Ask → Bool) → Requested → Bool → Result Setup Refusal → List Read
+abbrev pub some_reads : (Ask → Bool) → Requested → Bool → Result Setup Refusal → List Read
 some_reads built q with_body (Ok o) = path_reads built o [] with_body [] q.path None
 some_reads built q with_body (Err r) = []
 
-are_some_reads : (built : Ask → Bool) (files : Files) (q : Requested) (with_body : Bool) (setup : Result Setup Refusal)
+pub are_some_reads : (built : Ask → Bool) (files : Files) (q : Requested) (with_body : Bool) (setup : Result Setup Refusal)
     → AreRequestReads built files q with_body setup (some_reads built q with_body setup)
 are_some_reads built files q with_body (Ok o) = record { taken = []; are = refl }
 are_some_reads built files q with_body (Err r) = refl
@@ -157,7 +161,7 @@ module _ (due_of : Result Setup Refusal → Due) (built : Ask → Bool) (files :
 
 -- ---- the command `get`
 
-flat_refused : (due : Answer) (r : Refusal) → flat_seen due ≡ Err r → due ≡ Err r
+pub flat_refused : (due : Answer) (r : Refusal) → flat_seen due ≡ Err r → due ≡ Err r
 flat_refused (Ok body) r e = absurd cc
 flat_refused (Err other) r e = cc
 
@@ -185,7 +189,7 @@ module _ (built : Ask → Bool) (files : Files) (q : Requested) where
 -- ---- the command `plan`
 
 -- all reads were made before the output was written
-gained_all : (due : Due) (outcome : Outcome) (out out_now : Option (List ℕ)) (reads : List Read) (log log_now : Option (List Read))
+pub gained_all : (due : Due) (outcome : Outcome) (out out_now : Option (List ℕ)) (reads : List Read) (log log_now : Option (List Read))
     → GainsDue due outcome out out_now → log_now ≡ told_with log reads → GainsReads reads outcome log log_now
 gained_all due done out out_now reads log log_now wrote e = e
 gained_all due (refused r) out out_now reads log log_now wrote e = e
@@ -230,3 +234,37 @@ module _ (built : Ask → Bool) (files : Files) (q : Requested) where
   unfolding plan_due
   planned_with s outcome out out_now log log_mid log_now a w =
       run_with (λ s. due_rows (s >>= λ o. path_rows built o q.path)) (for_rows built) files q false s outcome out out_now log log_mid log_now a w
+
+-- ---- the command `pack`
+
+-- a packaging that is put to a sink ends a run with what is due
+module _ (due : Due) (out out_now : Option (List ℕ)) where
+  abbrev Put : Refusal → Outcome → Type 0
+  Put r told = IsPackedAs due (Refused r) out out_now → GainsDue due told out out_now
+
+  gains_by : (end : PackEnd) → IsPackedAs due end out out_now → GainsDue due (pack_outcome end) out out_now
+  gains_by Whole put = put
+  gains_by (Refused r) put = by_refusal Put (λ put. put.0) (λ put. put.0) (λ r memory store put. put.1 memory store) r put
+  gains_by SinkFailed put = put
+
+  pub packed_gains : (end : PackEnd) (outcome : Outcome) → outcome ≡ pack_outcome end → IsPackedAs due end out out_now → GainsDue due outcome out out_now
+  packed_gains end outcome e put = subst (λ (told : Outcome). GainsDue due told out out_now) (sym e) (gains_by end put)
+
+module _ (built : Ask → Bool) (files : Files) (q : Requested) where
+  pub packed_of : (outcome : Outcome) (r : Refusal) (out : Option (List ℕ)) (log log_now : Option (List Read))
+      → outcome ≡ refused_outcome r → AreSettingsRead files q.settings (Err r) log log_now → IsPack built files q outcome out out
+  unfolding pack_due
+  packed_of outcome r out log log_now e a =
+      let due = due_with (run_setup files q) (λ o. packed_path built o q.path) in
+      let refuses : (r ≢ NoMemory → r ≢ StoreFailed → due ≡ ([], Some r)) = (λ known_memory known_store.
+      ap (λ s. due_with (s >>= λ settings. Ok (setup_with files q settings)) (λ o. packed_path built o q.path)) (a.answered known_memory known_store))
+      in
+      let gained = gained_refused due [] out None None r refuses (GrewByPrefix-same None None [] refl, λ known_memory known_store. refl) in
+      subst (λ told. GainsDue due told out out) (sym e) gained.0
+
+  pub packed_with : (s : Settled) (outcome : Outcome) (out out_now : Option (List ℕ)) (log log_mid : Option (List Read))
+      → AreSettingsRead files q.settings (Ok s) log log_mid → IsPackWritten built (setup_with files q s) q.path outcome out out_now → IsPack built files q outcome out out_now
+  unfolding pack_due
+  packed_with s outcome out out_now log log_mid a w =
+      let setup : run_setup files q ≡ Ok (setup_with files q s) = ap (λ s. s >>= λ settings. Ok (setup_with files q settings)) a.answered in
+      subst (λ s. GainsDue (due_with s (λ o. packed_path built o q.path)) outcome out out_now) (sym setup) w

@@ -1,2 +1,4 @@
 pub mod Commands
+pub mod ReadsRuns
 pub mod Runs
+pub mod Services

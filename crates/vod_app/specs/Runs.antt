@@ -4,13 +4,16 @@ use Rattle.vod_types.specs.declared.paths.Ask.{Ask}
 use Rattle.vod_types.specs.declared.refusal.Refusal.{Refusal}
 use Rattle.vod_types.specs.declared.refusal.Refusal.TheVariants as refusals
 use Rattle.vod_types.specs.Settled.{Settled}
-use Rattle.list_model.specs.Command.{Requested, Outcome, done, usage, refused, store_failed, sink_failed, no_memory, outcome_status}
+use Rattle.list_model.specs.Command.{Requested, Outcome, done, usage, refused, store_failed, sink_failed, no_memory, door_failed, outcome_status}
 use Rattle.vod_source.specs.Stored.{Files, Read}
 use Rattle.origin_model.specs.Answers.{answer, path_rows}
-use Rattle.origin_model.specs.Outcomes.{AreRunReads, Due, GainsDue, GainsLine, GainsReads, due_answer, due_rows, get_due, plan_due, settings_named, settings_reads}
+use Rattle.origin_model.specs.Outcomes.{AreRunReads, Due, GainsDue, GainsLine, GainsReads, due_answer, due_rows, get_due, pack_due, plan_due, settings_named, settings_reads}
+use Rattle.origin_model.specs.Packaging.{packed_path}
 use Rattle.origin_model.specs.Reads.{AreReads, for_rows}
 use Rattle.origin_model.specs.Requests.{Setup}
 use Rattle.vod_source.specs.Calls.{AnswersUnlessFailed, LogsReads}
+use Rattle.mp4_flat.specs.declared.entries.PackEnd.{PackEnd}
+use Rattle.mp4_flat.specs.declared.entries.PackEnd.TheVariants as packs
 use Rattle.vod_app.specs.declared.ends.End.{End}
 use Rattle.vod_app.specs.declared.ends.End.TheVariants as ends
 
@@ -22,6 +25,7 @@ outcome_of (ends.Refused r) = refused r
 outcome_of ends.StoreFailed = store_failed
 outcome_of ends.SinkFailed = sink_failed
 outcome_of ends.NoMemory = no_memory
+outcome_of ends.DoorFailed = door_failed
 
 -- the outcome of a call that was refused; a failure of the store and want of memory have outcomes of their own
 abbrev pub refused_outcome : Refusal → Outcome
@@ -69,6 +73,20 @@ IsGet built files q outcome out out_now log log_now = IsRun (get_due built files
 abbrev pub IsPlan : (Ask → Bool) → Files → Requested → Outcome → Option (List ℕ) → Option (List ℕ) → Option (List Read) → Option (List Read) → Type 0
 IsPlan built files q outcome out out_now log log_now = IsRun (plan_due built files q) (for_rows built) files q false outcome out out_now log log_now
 
+-- the outcome of a packaging that ended so
+abbrev pub pack_outcome : PackEnd → Outcome
+pack_outcome packs.Whole = done
+pack_outcome (packs.Refused r) = refused_outcome r
+pack_outcome packs.SinkFailed = sink_failed
+
+-- what `pack` wrote by this outcome; nothing is said of its reads
+abbrev pub IsPack : (Ask → Bool) → Files → Requested → Outcome → Option (List ℕ) → Option (List ℕ) → Type 0
+IsPack built files q outcome out out_now = GainsDue (pack_due built files q) outcome out out_now
+
+-- with these settings
+abbrev pub IsPackWritten : (Ask → Bool) → Setup → List ℕ → Outcome → Option (List ℕ) → Option (List ℕ) → Type 0
+IsPackWritten built o path outcome out out_now = GainsDue (packed_path built o path) outcome out out_now
+
 -- how `plan` ends, what it wrote and which reads it made
 pub record PlanOutcome
     (built : Ask → Bool) (files : Files) (q : Requested) (status : ℕ) (out out_now : Option (List ℕ)) (log log_now : Option (List Read))
@@ -79,6 +97,15 @@ pub record PlanOutcome
   pub reads : List Read
   pub reads_are : AreRunReads (for_rows built) files q false reads
   pub logged : GainsReads reads outcome log log_now
+  pub told : GainsLine outcome err err_now err_faults err_faults_now
+
+-- how `pack` ends and what it wrote
+pub record PackOutcome
+    (built : Ask → Bool) (files : Files) (q : Requested) (status : ℕ) (out out_now : Option (List ℕ))
+    (err err_now : Option (List ℕ)) (err_faults err_faults_now : ℕ) : Type 0 where
+  pub outcome : Outcome
+  pub status_is : status ≡ outcome_status outcome
+  pub wrote : GainsDue (pack_due built files q) outcome out out_now
   pub told : GainsLine outcome err err_now err_faults err_faults_now
 
 -- a run tells its outcome by its status and by a line

@@ -1,5 +1,7 @@
 //! How a command ends.
 
+use mp4_flat::PackEnd;
+use vod_session::DoorEnd;
 use vod_types::Refusal;
 
 /// How a command ended.
@@ -17,12 +19,15 @@ pub enum End {
     SinkFailed,
     /// Memory ran out.
     NoMemory,
+    /// The door gave no further connection, or couldn't be opened.
+    DoorFailed,
 }
 
 impl End {
     ghost use Rattle.std.specs.Prelude.{◌≡◌};
     ghost use Rattle.list_model.specs.Command.{outcome_status};
-    ghost use Rattle.vod_app.specs.Runs.{outcome_of, refused_outcome};
+    ghost use Rattle.vod_turns.specs.Outcomes.{door_outcome};
+    ghost use Rattle.vod_app.specs.Runs.{outcome_of, pack_outcome, refused_outcome};
 
     /// The end of a command of which a call was refused.
     pub fn refused(refusal: Refusal) -> End
@@ -32,6 +37,28 @@ impl End {
             Refusal::StoreFailed => End::StoreFailed,
             Refusal::NoMemory => End::NoMemory,
             refusal => End::Refused(refusal),
+        }
+    }
+
+    /// The end of a command whose packaging ended so.
+    pub fn packed(end: PackEnd) -> End
+        ensures { outcome_of result ≡ pack_outcome end }
+    {
+        match end {
+            PackEnd::Whole => End::Done,
+            PackEnd::Refused(refusal) => End::refused(refusal),
+            PackEnd::SinkFailed => End::SinkFailed,
+        }
+    }
+
+    /// The end of a command that served a door.
+    pub fn of_door(end: DoorEnd) -> End
+        ensures { outcome_of result ≡ door_outcome end }
+    {
+        match end {
+            DoorEnd::Served => End::Done,
+            DoorEnd::DoorFailed => End::DoorFailed,
+            DoorEnd::NoMemory => End::NoMemory,
         }
     }
 
@@ -46,6 +73,7 @@ impl End {
             End::StoreFailed => 3,
             End::SinkFailed => 4,
             End::NoMemory => 5,
+            End::DoorFailed => 6,
         }
     }
 }

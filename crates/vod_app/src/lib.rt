@@ -1,34 +1,49 @@
 //! The one public function of the program: a run of the words of its command line.
 #![tactic(auto)]
 
-ghost use Rattle.std.specs.Prelude.{◌≡◌, ◌↔◌, ◌≤◌, ◌<◌, IfSome, None, Some, map, string_bytes};
-ghost use Rattle.list_model.specs.Command.{Requested, get as get_of, plan as plan_of, sink_failed, store_failed, usage};
+ghost use Rattle.std.specs.Prelude.{◌≡◌, ◌↔◌, ◌≤◌, ◌<◌, ℕ, List, IfSome, None, Some, false, true, map, string_bytes};
+ghost use Rattle.list_model.specs.Command.{Requested, door_failed, get as get_of, pack as pack_of, plan as plan_of, reads as reads_of, serve as serve_of, sink_failed, store_failed, turns as turns_of, usage};
 ghost use Rattle.vod_source.specs.Causes.{Rose};
-ghost use Rattle.origin_model.specs.Outcomes.{GetOutcome};
+ghost use Rattle.origin_model.specs.Outcomes.{GetOutcome, settings_named, settings_reads};
 ghost use Rattle.mp4_flat.specs.Built.{built_paths};
 ghost use Rattle.mp4_flat.specs.Listings.{every_path};
-ghost use Rattle.vod_app.specs.Commands.{built_command};
-ghost use Rattle.vod_app.specs.Runs.{IsGet, IsPlan, PlanOutcome, TellsOutcome, outcome_of};
+ghost use Rattle.vod_turns.specs.Outcomes.{AreTurnedBy, IsServedBy};
+ghost use Rattle.vod_app.specs.declared.words.Order.{Order};
+ghost use Rattle.vod_app.specs.Commands.{built_command, opens_door, serving};
+ghost use Rattle.vod_app.specs.Runs.{IsGet, IsPack, IsPlan, PackOutcome, PlanOutcome, TellsOutcome, outcome_of};
+ghost use Rattle.vod_app.specs.ReadsRuns.{IsReads, ReadsOutcome};
+ghost use Rattle.vod_app.specs.Services.{DoesBy, LogsSettings, ServiceOutcome, answers_with};
 
 mod ends;
 mod lines;
 #[cfg(test)]
+mod pack_tests;
+mod packs;
+#[cfg(test)]
 mod plan_tests;
 mod plans;
+mod reads;
 mod requests;
 #[cfg(test)]
 mod segment_tests;
+#[cfg(test)]
+mod serve_tests;
+mod serves;
 mod settings;
 #[cfg(test)]
 mod test_films;
 #[cfg(test)]
 mod tests;
+mod watched;
 mod words;
 
 use ends::End;
 use lines::tell;
+use packs::pack;
 use plans::plan;
+use reads::reads;
 use requests::get;
+use serves::{Done, serve};
 use std::alloc::Global;
 use std::string::String;
 use vod_source::{Door, Sink, Store};
@@ -47,9 +62,15 @@ pub struct Ended<S> {
 /// |---|---|
 /// | `get ROOT SETTINGS PATH` | the answer of PATH |
 /// | `plan ROOT SETTINGS PATH` | for each segment of the media playlist of PATH its number, start, length, video and audio samples |
+/// | `reads ROOT SETTINGS PATH` | for each read that the answer of PATH makes its file, place and number of bytes |
+/// | `pack ROOT SETTINGS PATH` | each name that the master playlist or media presentation description of PATH lists, with its answer |
+/// | `serve ROOT SETTINGS ADDR COUNT` | nothing: COUNT connections to ADDR are served, one after another |
+/// | `turns ROOT SETTINGS ADDR COUNT` | nothing: COUNT connections to ADDR, at most 64, are served in turns |
 ///
-/// `get` answers media playlists, initialization segments and segments, and refuses every other path of the grammar as a form
-/// that isn't built; `plan` answers media playlists. Times are in 1/90000 s, and a line has one space between its numbers.
+/// `get` answers every path of the grammar but that of a clip, which it refuses as a form that isn't built; `plan` answers media
+/// playlists. Times are in 1/90000 s, and a line has one space between its numbers. `pack` writes a line `NAME LENGTH`, or
+/// `NAME LENGTH cut 28 BadNal`, before the bytes of a name, and a line `NAME refused N WORD` for a name that is refused; before the
+/// first list that is refused it ends.
 ///
 /// | status | where | line on `err` |
 /// |---|---|---|
@@ -59,12 +80,14 @@ pub struct Ended<S> {
 /// | 3 | the store failed | `store failed` |
 /// | 4 | `out` failed | none |
 /// | 5 | memory ran out | `no memory` |
+/// | 6 | the door couldn't be opened or gave no further connection | `door failed` |
 ///
-/// Each line ends with a line feed. A failure of `err` changes nothing.
+/// Each line ends with a line feed. A failure of `err` changes nothing. A store that fails while connections are served is
+/// told to their peers, and doesn't end the command.
 pub fn run<S: Store, D: Door, K: Sink, E: Sink>(
     alloc: Global,
     words: &[String],
-    mut store: S,
+    store: S,
     door: &mut D,
     out: &mut K,
     err: &mut E,
@@ -74,8 +97,9 @@ pub fn run<S: Store, D: Door, K: Sink, E: Sink>(
     ensures unused { result.status ≡ 1 → out.new ≡ out.old }
     ensures unread { result.status ≡ 1 → result.store ≡ store }
 
-    // No command that is built opens the door.
-    ensures door { door.new ≡ door.old }
+    // Only a command that serves connections opens the door, and it writes nothing to `out`.
+    ensures door { opens_door (built_command (map string_bytes words.now)) ≡ false → door.new ≡ door.old }
+    ensures served_unwritten { opens_door (built_command (map string_bytes words.now)) ≡ true → out.new ≡ out.old }
 
     // What `get` writes and reads, wherever the store tells its content.
     ensures get { IfSome (S.content store) (λ files. (q : Requested) → built_command (map string_bytes words.now) ≡ Some (get_of q) →
@@ -87,11 +111,36 @@ pub fn run<S: Store, D: Door, K: Sink, E: Sink>(
         PlanOutcome every_path files q result.status (K.written out.old) (K.written out.new) (S.log store) (S.log result.store)
         (E.written err.old) (E.written err.new) (E.faults err.old) (E.faults err.new)) }
 
+    // What `pack` writes.
+    ensures pack { IfSome (S.content store) (λ files. (q : Requested) → built_command (map string_bytes words.now) ≡ Some (pack_of q) →
+        PackOutcome every_path files q result.status (K.written out.old) (K.written out.new)
+        (E.written err.old) (E.written err.new) (E.faults err.old) (E.faults err.new)) }
+
+    // What `reads` writes of the reads that it makes; of the store's own log it says nothing.
+    ensures reads { IfSome (S.content store) (λ files. (q : Requested) → built_command (map string_bytes words.now) ≡ Some (reads_of q) →
+        ReadsOutcome built_paths files q result.status (K.written out.old) (K.written out.new)
+        (E.written err.old) (E.written err.new) (E.faults err.old) (E.faults err.new)) }
+
+    // What `serve` does with the links of the door, and `turns`, wherever the store tells its content.
+    ensures serve { IfSome (S.content store) (λ files. (root settings addr : List ℕ) (count : ℕ) → built_command (map string_bytes words.now) ≡ Some (serve_of root settings addr count) →
+        ServiceOutcome (IsServedBy D.L.left D.L.written (settings_named files settings) (answers_with built_paths files root) count
+        (record { coming = D.coming door.old; returned = D.returned door.old; out = D.out door.old })
+        (record { coming = D.coming door.new; returned = D.returned door.new; out = D.out door.new })
+        (S.faults store) (S.faults result.store)) (settings_reads files settings) result.status (S.log store) (S.log result.store)
+        (E.written err.old) (E.written err.new) (E.faults err.old) (E.faults err.new)) }
+    ensures turns { IfSome (S.content store) (λ files. (root settings addr : List ℕ) (count : ℕ) → built_command (map string_bytes words.now) ≡ Some (turns_of root settings addr count) →
+        ServiceOutcome (AreTurnedBy D.L.left D.L.written (settings_named files settings) (answers_with built_paths files root) count
+        (record { coming = D.coming door.old; returned = D.returned door.old; out = D.out door.old })
+        (record { coming = D.coming door.new; returned = D.returned door.new; out = D.out door.new })
+        (S.faults store) (S.faults result.store)) (settings_reads files settings) result.status (S.log store) (S.log result.store)
+        (E.written err.old) (E.written err.new) (E.faults err.old) (E.faults err.new)) }
+
     // Every status has its line, whether the store tells its content or not.
     ensures told { TellsOutcome result.status (E.written err.old) (E.written err.new) (E.faults err.old) (E.faults err.new) }
-    ensures statuses { result.status < 6 }
+    ensures statuses { result.status < 7 }
     ensures store_failed { result.status ≡ 3 → Rose (S.faults store) (S.faults result.store) }
     ensures sink_failed { result.status ≡ 4 → Rose (K.faults out.old) (K.faults out.new) }
+    ensures door_failed { result.status ≡ 6 → Rose (D.faults door.old) (D.faults door.new) }
 
     // What stays, and counts that never fall.
     ensures content { S.content result.store ≡ S.content store }
@@ -100,37 +149,68 @@ pub fn run<S: Store, D: Door, K: Sink, E: Sink>(
     ensures store_later { S.faults store ≤ S.faults result.store }
     ensures out_later { K.faults out.old ≤ K.faults out.new }
     ensures err_later { E.faults err.old ≤ E.faults err.new }
+    ensures door_later { D.faults door.old ≤ D.faults door.new }
 {
-    let end = run_command(alloc, words, &mut store, out);
+    let Done { end, store } = run_command(alloc, words, store, door, out);
     tell(err, &end);
     let status = end.status();
     Ended { status, store }
 }
 
 // Runs the command that the words spell, but for the line that tells its end.
-fn run_command<S: Store, K: Sink>(
+fn run_command<S: Store, D: Door, K: Sink>(
     alloc: Global,
     words: &[String],
-    store: &mut S,
+    mut store: S,
+    door: &mut D,
     out: &mut K,
-) -> End
-    ensures form { (outcome_of result ≡ usage) ↔ (built_command (map string_bytes words.now) ≡ None) }
-    ensures unused { outcome_of result ≡ usage → out.new ≡ out.old }
-    ensures unread { outcome_of result ≡ usage → store.new ≡ store.old }
-    ensures got { IfSome (S.content store.old) (λ files. (q : Requested) → built_command (map string_bytes words.now) ≡ Some (get_of q) →
-        IsGet built_paths files q (outcome_of result) (K.written out.old) (K.written out.new) (S.log store.old) (S.log store.new)) }
-    ensures planned { IfSome (S.content store.old) (λ files. (q : Requested) → built_command (map string_bytes words.now) ≡ Some (plan_of q) →
-        IsPlan every_path files q (outcome_of result) (K.written out.old) (K.written out.new) (S.log store.old) (S.log store.new)) }
-    ensures content { S.content store.new ≡ S.content store.old }
+) -> Done<S>
+    ensures form { (outcome_of result.end ≡ usage) ↔ (built_command (map string_bytes words.now) ≡ None) }
+    ensures unused { outcome_of result.end ≡ usage → out.new ≡ out.old }
+    ensures unread { outcome_of result.end ≡ usage → result.store ≡ store }
+    ensures door { opens_door (built_command (map string_bytes words.now)) ≡ false → door.new ≡ door.old }
+    ensures served_unwritten { opens_door (built_command (map string_bytes words.now)) ≡ true → out.new ≡ out.old }
+    ensures got { IfSome (S.content store) (λ files. (q : Requested) → built_command (map string_bytes words.now) ≡ Some (get_of q) →
+        IsGet built_paths files q (outcome_of result.end) (K.written out.old) (K.written out.new) (S.log store) (S.log result.store)) }
+    ensures planned { IfSome (S.content store) (λ files. (q : Requested) → built_command (map string_bytes words.now) ≡ Some (plan_of q) →
+        IsPlan every_path files q (outcome_of result.end) (K.written out.old) (K.written out.new) (S.log store) (S.log result.store)) }
+    ensures packed { IfSome (S.content store) (λ files. (q : Requested) → built_command (map string_bytes words.now) ≡ Some (pack_of q) →
+        IsPack every_path files q (outcome_of result.end) (K.written out.old) (K.written out.new)) }
+    ensures read { IfSome (S.content store) (λ files. (q : Requested) → built_command (map string_bytes words.now) ≡ Some (reads_of q) →
+        IsReads built_paths files q (outcome_of result.end) (K.written out.old) (K.written out.new)) }
+    ensures served { IfSome (S.content store) (λ files. (order : Order) (root settings addr : List ℕ) (count : ℕ) → built_command (map string_bytes words.now) ≡ Some (serving order root settings addr count) →
+        DoesBy D.L.left D.L.written (settings_named files settings) (answers_with built_paths files root) count
+        (record { coming = D.coming door.old; returned = D.returned door.old; out = D.out door.old })
+        (record { coming = D.coming door.new; returned = D.returned door.new; out = D.out door.new })
+        (S.faults store) (S.faults result.store) order (outcome_of result.end)
+        × LogsSettings (settings_reads files settings) (outcome_of result.end) (S.log store) (S.log result.store)) }
+    ensures content { S.content result.store ≡ S.content store }
     ensures kept { K.kept out.new ≡ K.kept out.old }
-    ensures store_later { S.faults store.old ≤ S.faults store.new }
+    ensures store_later { S.faults store ≤ S.faults result.store }
     ensures out_later { K.faults out.old ≤ K.faults out.new }
-    ensures store_failed { outcome_of result ≡ store_failed → Rose (S.faults store.old) (S.faults store.new) }
-    ensures sink_failed { outcome_of result ≡ sink_failed → Rose (K.faults out.old) (K.faults out.new) }
+    ensures door_later { D.faults door.old ≤ D.faults door.new }
+    ensures store_failed { outcome_of result.end ≡ store_failed → Rose (S.faults store) (S.faults result.store) }
+    ensures sink_failed { outcome_of result.end ≡ sink_failed → Rose (K.faults out.old) (K.faults out.new) }
+    ensures door_failed { outcome_of result.end ≡ door_failed → Rose (D.faults door.old) (D.faults door.new) }
 {
     match Command::read(words) {
-        Some(Command::Get(request)) => get(alloc, request, store, out),
-        Some(Command::Plan(request)) => plan(alloc, request, store, out),
-        None => End::Usage,
+        Some(Command::Get(request)) => {
+            let end = get(alloc, request, &mut store, out);
+            Done { end, store }
+        }
+        Some(Command::Plan(request)) => {
+            let end = plan(alloc, request, &mut store, out);
+            Done { end, store }
+        }
+        Some(Command::Pack(request)) => {
+            let end = pack(alloc, request, &mut store, out);
+            Done { end, store }
+        }
+        Some(Command::Reads(request)) => reads(alloc, request, store, out),
+        Some(Command::Serve(service)) => serve(alloc, service, store, door),
+        None => Done {
+            end: End::Usage,
+            store,
+        },
     }
 }

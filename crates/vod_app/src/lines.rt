@@ -28,6 +28,7 @@ pub fn tell<E: Sink>(err: &mut E, end: &End)
         End::Refused(refusal) => tell_refusal(err, refusal),
         End::StoreFailed => err.put(b"store failed\n"),
         End::NoMemory => err.put(b"no memory\n"),
+        End::DoorFailed => err.put(b"door failed\n"),
     };
 }
 

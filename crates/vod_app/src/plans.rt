@@ -1,7 +1,7 @@
 //! The command `plan`.
 
 ghost use Rattle.std.specs.Prelude.{◌≡◌, ◌≢◌, ◌≤◌, ◌++◌, None, IfOk, IfSome, OnOk, map, string_bytes};
-ghost use Rattle.list_model.specs.Command.{no_memory, plan_line, plan_text, sink_failed, store_failed, usage};
+ghost use Rattle.list_model.specs.Command.{door_failed, no_memory, plan_line, plan_text, sink_failed, store_failed, usage};
 ghost use Rattle.vod_source.specs.Causes.{Rose};
 ghost use Rattle.origin_model.specs.Outcomes.{GainsDue, setup_with};
 ghost use Rattle.segment_model.specs.Listing.{listed_view};
@@ -30,6 +30,7 @@ pub fn plan<S: Store, K: Sink>(
     ensures planned { IfSome (S.content store.old) (λ files. IsPlan every_path files (requested request.entry) (outcome_of result)
         (K.written out.old) (K.written out.new) (S.log store.old) (S.log store.new)) }
     ensures form { outcome_of result ≢ usage }
+    ensures door { outcome_of result ≢ door_failed }
     ensures content { S.content store.new ≡ S.content store.old }
     ensures kept { K.kept out.new ≡ K.kept out.old }
     ensures store_later { S.faults store.old ≤ S.faults store.new }
@@ -54,6 +55,7 @@ fn plan_with<S: Store, K: Sink>(
     ensures planned { IfSome (S.content store.old) (λ files. IsPlanWritten every_path (setup_with files (requested request.entry) settings.now) (requested request.entry).path
         (outcome_of result) (K.written out.old) (K.written out.new) (S.log store.old) (S.log store.new)) }
     ensures form { outcome_of result ≢ usage }
+    ensures door { outcome_of result ≢ door_failed }
     ensures content { S.content store.new ≡ S.content store.old }
     ensures kept { K.kept out.new ≡ K.kept out.old }
     ensures store_later { S.faults store.old ≤ S.faults store.new }
@@ -77,6 +79,7 @@ fn plan_with<S: Store, K: Sink>(
 pub fn put_plan<K: Sink>(alloc: Global, rows: &[Listed], out: &mut K) -> End
     ensures wrote { GainsDue (plan_text (map listed_view rows.now), None) (outcome_of result) (K.written out.old) (K.written out.new) }
     ensures form { outcome_of result ≢ usage }
+    ensures door { outcome_of result ≢ door_failed }
     ensures store { outcome_of result ≢ store_failed }
     ensures kept { K.kept out.new ≡ K.kept out.old }
     ensures later { K.faults out.old ≤ K.faults out.new }
@@ -92,6 +95,7 @@ pub fn put_plan<K: Sink>(alloc: Global, rows: &[Listed], out: &mut K) -> End
 fn put_text<K: Sink>(text: &str, out: &mut K) -> End
     ensures wrote { GainsDue (text.now, None) (outcome_of result) (K.written out.old) (K.written out.new) }
     ensures form { outcome_of result ≢ usage }
+    ensures door { outcome_of result ≢ door_failed }
     ensures store { outcome_of result ≢ store_failed }
     ensures memory { outcome_of result ≢ no_memory }
     ensures kept { K.kept out.new ≡ K.kept out.old }
@@ -126,8 +130,8 @@ fn push_line(text: &mut String, listed: &Listed) -> Result<(), AllocError>
     push_number(text, listed.audio, "\n")
 }
 
-// Appends a number in decimal, and what ends it.
-fn push_number<I: Integer>(text: &mut String, n: I, end: &str) -> Result<(), AllocError>
+/// Appends a number in decimal, and what ends it.
+pub fn push_number<I: Integer>(text: &mut String, n: I, end: &str) -> Result<(), AllocError>
     ensures { OnOk result (string_bytes text.new ≡ string_bytes text.old ++ I.text n ++ end.now) }
 {
     let mut digits = Buffer::new();

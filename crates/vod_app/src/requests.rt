@@ -1,7 +1,7 @@
 //! The command `get`.
 
 ghost use Rattle.std.specs.Prelude.{◌≡◌, ◌≢◌, ◌≤◌, IfSome};
-ghost use Rattle.list_model.specs.Command.{store_failed, sink_failed, no_memory, usage};
+ghost use Rattle.list_model.specs.Command.{door_failed, store_failed, sink_failed, no_memory, usage};
 ghost use Rattle.vod_source.specs.Causes.{Rose};
 ghost use Rattle.origin_model.specs.Outcomes.{GainsDue, setup_with};
 ghost use Rattle.mp4_flat.specs.Built.{built_paths};
@@ -26,6 +26,7 @@ pub fn get<S: Store, K: Sink>(
     ensures got { IfSome (S.content store.old) (λ files. IsGet built_paths files (requested request.entry) (outcome_of result)
         (K.written out.old) (K.written out.new) (S.log store.old) (S.log store.new)) }
     ensures form { outcome_of result ≢ usage }
+    ensures door { outcome_of result ≢ door_failed }
     ensures content { S.content store.new ≡ S.content store.old }
     ensures kept { K.kept out.new ≡ K.kept out.old }
     ensures store_later { S.faults store.old ≤ S.faults store.new }
@@ -50,6 +51,7 @@ fn get_with<S: Store, K: Sink>(
     ensures got { IfSome (S.content store.old) (λ files. IsAnswerWritten built_paths (setup_with files (requested request.entry) settings.now) (requested request.entry).path
         (outcome_of result) (K.written out.old) (K.written out.new) (S.log store.old) (S.log store.new)) }
     ensures form { outcome_of result ≢ usage }
+    ensures door { outcome_of result ≢ door_failed }
     ensures content { S.content store.new ≡ S.content store.old }
     ensures kept { K.kept out.new ≡ K.kept out.old }
     ensures store_later { S.faults store.old ≤ S.faults store.new }
@@ -73,6 +75,7 @@ fn get_with<S: Store, K: Sink>(
 pub fn put_body<K: Sink>(body: &FlatBody, out: &mut K) -> End
     ensures wrote { GainsDue (body.now.bytes.items, cut_refusal body.now.cut) (outcome_of result) (K.written out.old) (K.written out.new) }
     ensures form { outcome_of result ≢ usage }
+    ensures door { outcome_of result ≢ door_failed }
     ensures store { outcome_of result ≢ store_failed }
     ensures memory { outcome_of result ≢ no_memory }
     ensures kept { K.kept out.new ≡ K.kept out.old }

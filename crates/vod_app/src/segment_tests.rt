@@ -104,6 +104,20 @@ const MASTER: &[u8; 77] = b"\
     #EXTM3U\n#EXT-X-STREAM-INF:BANDWIDTH=5625,CODECS=\"mp4a.40.2\"\nindex-f1-a1.m3u8\n\
     ";
 
+// The description of the film of `TWO_SAMPLES`: 2048 ticks of 48000 are 3840 units, which end in the 43rd millisecond.
+const DESCRIPTION: &[u8; 657] = b"\
+    <?xml version=\"1.0\" encoding=\"UTF-8\"?>\n\
+    <MPD xmlns=\"urn:mpeg:dash:schema:mpd:2011\" type=\"static\" mediaPresentationDuration=\"PT0.043S\" minBufferTime=\"PT10.000S\" profiles=\"urn:mpeg:dash:profile:full:2011\">\n\
+    <Period id=\"1\" start=\"PT0.000S\" duration=\"PT0.043S\">\n\
+    <AdaptationSet mimeType=\"audio/mp4\">\n\
+    <Representation id=\"f1-a1\" bandwidth=\"5625\" codecs=\"mp4a.40.2\" audioSamplingRate=\"48000\">\n\
+    <SegmentList timescale=\"90000\" presentationTimeOffset=\"0\">\n\
+    <Initialization sourceURL=\"init-c1-f1-a1.mp4\"/>\n\
+    <SegmentTimeline>\n<S t=\"0\" d=\"3840\"/>\n</SegmentTimeline>\n\
+    <SegmentURL media=\"fragment-1-f1-a1.m4s\"/>\n\
+    </SegmentList>\n</Representation>\n</AdaptationSet>\n</Period>\n</MPD>\n\
+    ";
+
 // What stands behind a place, or nothing.
 fn behind(bytes: &[u8], at: usize) -> &[u8] {
     if at <= bytes.len() { &bytes[at..] } else { &[] }
@@ -167,12 +181,15 @@ fn lines_of(alloc: Global, text: &str) -> Result<String, Fail> {
     Ok(lines)
 }
 
-// What a body holds: a plan, a transport stream of a length, or boxes.
+// What a body holds: a plan or a list, a transport stream of a length with its last four bytes, or boxes.
 fn body_of(alloc: Global, body: &[u8]) -> Result<String, Fail> {
     match body {
         [] => Ok(String::from_str(alloc, "nothing")?),
-        [b'0'..=b'9', ..] => lines_of(alloc, str::from_utf8(body)?),
-        [b'G', ..] => Ok(format!(in alloc; "stream {}", body.len())?),
+        [b'0'..=b'9' | b'#', ..] => lines_of(alloc, str::from_utf8(body)?),
+        [b'G', ..] => {
+            let last = word(body, body.len().saturating_sub(4));
+            Ok(format!(in alloc; "stream {} {last}", body.len())?)
+        }
         _ => boxes_of(alloc, body),
     }
 }
@@ -206,14 +223,14 @@ fetch /r - /local/dash/a.mp4/fragment-1-a1.m4s | usage
 plan /r - | usage
 plan /r  /local/hls/a.mp4/index-v1-a1.m3u8 | usage
 Plan /r - /local/hls/a.mp4/index-v1-a1.m3u8 | usage
-pack /r - /local/hls/a.mp4/index-v1-a1.m3u8 | usage
+pack /r - /local/hls/a.mp4/index-v1-a1.m3u8 | refused 4 BadPath
 rehearse 1 | usage
 ";
 
 // Rows of settings, path and what is due: a refusal, the length of an initialization segment, or a fragment's number and
 // for each track its id, the two halves of the time of its first sample, how many samples it has, and the numbers of the
-// first and the last one; of a transport stream its length.
-const ROWS: &str = r"
+// first and the last one; of a transport stream its length and its last four bytes, and of a list its lines.
+const ROWS: &str = r#"
 # 468 * 1920 = 898560 is below 900000, so sample 469 begins the second fragment, and 938 the third.
 - /local/dash/aac.mp4/fragment-1-a1.m4s | 1; 2 0 0 469 0 468
 - /local/dash/aac.mp4/fragment-2-f1-a1.m4s | 2; 2 0 900480 469 469 937
@@ -338,16 +355,22 @@ long.json /mapped/dash/five.json/fragment-5-v1.m4s | refused 40 NoSegment
 # The same by the names of HLS, and a stream of one sample of 100 bytes: two packets of tables, and one with the sample.
 - /local/hls/a.mp4/seg-1-f1-v1.m4s | 1; 1 0 0 250 0 249
 - /mapped/hls/m.json/init-c1-f1-v1.mp4 | init 622
-- /local/hls/one.mp4/seg-1-f1-a1.ts | stream 564
+- /local/hls/one.mp4/seg-1-f1-a1.ts | stream 564 117901063
 # Five seconds of AVC and five of HEVC in one segment, which a stream can't hold and a fragment can.
 - /mapped/hls/mixed.json/seg-1-v1.ts | refused 32 MixedCodecs
 - /mapped/dash/mixed.json/fragment-1-v1.m4s | 1; 1 0 0 250 0 10124
-# I-frames: a segment of 10 seconds has 10 of them.
+# Lists: two parts of which the second has one segment, one of whose files is gone, and audio groups of one and of two.
+- /mapped/hls/m.json/index-f1-v1.m3u8 | #EXTM3U;#EXT-X-VERSION:3;#EXT-X-TARGETDURATION:10;#EXT-X-MEDIA-SEQUENCE:1;#EXT-X-PLAYLIST-TYPE:VOD;#EXTINF:10.000,;seg-1-f1-v1.ts;#EXTINF:10.000,;seg-2-f1-v1.ts;#EXT-X-DISCONTINUITY;#EXTINF:5.000,;seg-3-f1-v1.ts;#EXT-X-ENDLIST;
+- /mapped/hls/gone.json/index-f1-v1.m3u8 | refused 20 NoFile
+- /mapped/hls/group.json/master.m3u8 | #EXTM3U;#EXT-X-MEDIA:TYPE=AUDIO,GROUP-ID="aud",NAME="English",LANGUAGE="eng",DEFAULT=YES,AUTOSELECT=YES,URI="index-f2-a1.m3u8";#EXT-X-STREAM-INF:BANDWIDTH=1064000,RESOLUTION=640x360,CODECS="avc1.42c01e,mp4a.40.2",AUDIO="aud";index-f1-v1.m3u8;
+- /mapped/hls/twice.json/master.m3u8 | #EXTM3U;#EXT-X-MEDIA:TYPE=AUDIO,GROUP-ID="aud",NAME="f2 English",LANGUAGE="eng",DEFAULT=YES,AUTOSELECT=YES,URI="index-f2-a1.m3u8";#EXT-X-MEDIA:TYPE=AUDIO,GROUP-ID="aud",NAME="f3 English",LANGUAGE="eng",DEFAULT=NO,AUTOSELECT=YES,URI="index-f3-a1.m3u8";#EXT-X-STREAM-INF:BANDWIDTH=1064000,RESOLUTION=640x360,CODECS="avc1.42c01e,mp4a.40.2",AUDIO="aud";index-f1-v1.m3u8;
+# I-frames: a segment of 10 seconds has 10 of them. The eleventh of the film is sample 250.
+- /local/hls/a.mp4/iframes-f1-v1.m3u8 | #EXTM3U;#EXT-X-VERSION:4;#EXT-X-TARGETDURATION:1;#EXT-X-MEDIA-SEQUENCE:1;#EXT-X-PLAYLIST-TYPE:VOD;#EXT-X-I-FRAMES-ONLY;#EXTINF:1.000,;iframe-1-1-f1-v1.ts;#EXTINF:1.000,;iframe-1-2-f1-v1.ts;#EXTINF:1.000,;iframe-1-3-f1-v1.ts;#EXTINF:1.000,;iframe-1-4-f1-v1.ts;#EXTINF:1.000,;iframe-1-5-f1-v1.ts;#EXTINF:1.000,;iframe-1-6-f1-v1.ts;#EXTINF:1.000,;iframe-1-7-f1-v1.ts;#EXTINF:1.000,;iframe-1-8-f1-v1.ts;#EXTINF:1.000,;iframe-1-9-f1-v1.ts;#EXTINF:1.000,;iframe-1-10-f1-v1.ts;#EXTINF:1.000,;iframe-2-1-f1-v1.ts;#EXTINF:1.000,;iframe-2-2-f1-v1.ts;#EXTINF:1.000,;iframe-2-3-f1-v1.ts;#EXTINF:1.000,;iframe-2-4-f1-v1.ts;#EXTINF:1.000,;iframe-2-5-f1-v1.ts;#EXTINF:1.000,;iframe-2-6-f1-v1.ts;#EXTINF:1.000,;iframe-2-7-f1-v1.ts;#EXTINF:1.000,;iframe-2-8-f1-v1.ts;#EXTINF:1.000,;iframe-2-9-f1-v1.ts;#EXTINF:1.000,;iframe-2-10-f1-v1.ts;#EXT-X-ENDLIST;
+- /local/hls/a.mp4/iframe-2-1-f1-v1.ts | stream 564 250
 - /local/hls/a.mp4/iframe-1-11-f1-v1.ts | refused 47 NoIframe
 - /local/hls/a.mp4/iframe-3-1-f1-v1.ts | refused 40 NoSegment
 - /local/hls/two.mp4/iframes-f1-v1.m3u8 | refused 25 NoTrack
-# Forms that aren't built.
-- /local/dash/a.mp4/manifest.mpd | refused 14 Unsupported
+# A form that isn't built.
 long.json /local/dash/a.mp4/clip-f1-v1.mp4 | refused 14 Unsupported
 # Names that aren't spelled as they are printed, and settings that are empty or aren't there.
 - /local/hls/a.mp4/seg-01-f1-a1.ts | refused 4 BadPath
@@ -356,7 +379,7 @@ blank.json /local/dash/a.mp4/fragment-1-a1.m4s | refused 6 BadSettings
 absent.json /local/dash/a.mp4/fragment-1-a1.m4s | refused 20 NoFile
 # An edit list whose media time is -2.
 - /local/dash/broken.mp4/fragment-1-a1.m4s | refused 24 BadTable
-";
+"#;
 
 // Runs the words of each row of a table, behind the first words, and compares what is told of it with what is due.
 fn check_rows(
@@ -419,12 +442,13 @@ type Damage = (&'static [u8; 4], usize, &'static [u8], &'static str);
 #[test]
 fn bodies_are_those_of_the_standard(rt: HostRuntime) -> Result<(), Fail> {
     let alloc = rt.alloc();
-    let rows: [(&str, &[u8]); 9] = [
+    let rows: [(&str, &[u8]); 10] = [
         ("- /local/dash/two.mp4/init-c1-f1-a1.mp4", INIT_SEGMENT),
         ("- /local/dash/two.mp4/fragment-1-a1.m4s", TWO_SAMPLES),
         ("- /local/dash/order.mp4/fragment-1-v1-a1.m4s", OUT_OF_ORDER),
         ("- /local/hls/ntsc.mp4/index-f1-v1.m3u8", PLAYLIST),
         ("- /local/hls/two.mp4/master.m3u8", MASTER),
+        ("- /local/dash/two.mp4/manifest.mpd", DESCRIPTION),
         ("- /local/dash/skip.mp4/fragment-1-a1.m4s", SECOND_SAMPLE),
         ("- /local/dash/late.mp4/fragment-1-v1.m4s", SHOWN_AT_ONCE),
         (

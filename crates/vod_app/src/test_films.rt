@@ -175,10 +175,11 @@ fn three_tracks(alloc: Global) -> Result<Vec<u8>, Fail> {
 }
 
 // The texts that the requests name: settings, and mappings below `/r`.
-const TEXTS: [(&str, &str); 25] = [
+const TEXTS: [(&str, &str); 28] = [
     ("blank.json", ""),
     ("ignore.json", r#"{"ignore_edits":true}"#),
     ("align.json", r#"{"align":true}"#),
+    ("fmp4.json", r#"{"hls_fmp4":true}"#),
     ("start.json", r#"{"bootstrap":[2000,4000]}"#),
     ("short.json", r#"{"segment_ms":2000}"#),
     ("long.json", r#"{"segment_ms":2000,"policy":"last_long"}"#),
@@ -232,6 +233,14 @@ const TEXTS: [(&str, &str); 25] = [
     (
         "/r/gain.json",
         r#"{"sequences":[{"clips":[{"type":"gainFilter","gain":0.5}]}]}"#,
+    ),
+    (
+        "/r/group.json",
+        r#"{"sequences":[{"bitrate":{"v":1000000},"clips":[{"type":"source","path":"/a.mp4","tracks":"v1"}]},{"language":"eng","label":"English","bitrate":{"a":64000},"clips":[{"type":"source","path":"/aac.mp4"}]}]}"#,
+    ),
+    (
+        "/r/twice.json",
+        r#"{"sequences":[{"bitrate":{"v":1000000},"clips":[{"path":"/a.mp4"}]},{"language":"eng","label":"English","bitrate":{"a":64000},"clips":[{"path":"/aac.mp4"}]},{"language":"eng","label":"English","bitrate":{"a":64000},"clips":[{"path":"/aac.mp4"}]}]}"#,
     ),
     ("/r/empty.json", r#"{"sequences":[]}"#),
     ("/r/open.json", "{"),

@@ -1,4 +1,4 @@
-//! Runs the command of the command line over real files and the standard streams.
+//! Runs the command of the command line over real files, the standard streams and TCP connections.
 #![tactic(auto)]
 
 use std::alloc::Global;
@@ -6,8 +6,7 @@ use std::process::ExitCode;
 use std::string::String;
 use std::{env, io};
 use vod_app::{Ended, run};
-use vod_host::{FileStore, HostSink};
-use vod_source::MemDoor;
+use vod_host::{FileStore, HostDoor, HostSink};
 
 // The status where standard output failed.
 const SINK_FAILED: u8 = 4;
@@ -24,7 +23,7 @@ fn run_words(rt: &HostRuntime) -> Option<u8> {
     let alloc = rt.alloc();
     let words = words(alloc, rt).ok()?;
     let store = FileStore::new(alloc, rt.clone().ok()?).ok()?;
-    let mut door = MemDoor::new(alloc, Vec::new(alloc), Vec::new(alloc)).ok()?;
+    let mut door = HostDoor::new(alloc, rt.clone().ok()?);
     let mut out = HostSink::new(alloc, rt.stdout()).ok()?;
     let mut err = HostSink::new(alloc, rt.stderr()).ok()?;
     let Ended { status, store: _ } = run(alloc, &words, store, &mut door, &mut out, &mut err);

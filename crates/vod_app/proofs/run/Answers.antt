@@ -1,4 +1,5 @@
 use Rattle.vod_source.proofs.CallLemmas.{told_with_all}
+use Rattle.vod_app.specs.declared.words.Order.TheVariants as orders
 use Rattle.vod_app.proofs.run.Goals as goal
 
 pub returns-clause-get : goal.returns-clause-get
@@ -22,5 +23,45 @@ returns-clause-plan g c =
       reads = p.reads;
       reads_are = p.reads_are;
       logged = p.logged;
+      told = c.tell.ensures.line;
+    })
+
+pub returns-clause-pack : goal.returns-clause-pack
+returns-clause-pack g c =
+    told_with_all (g.S.Store.content c.args.store) _ _ c.run_command-end.ensures.packed (λ files packed q is. record {
+      outcome = _;
+      status_is = c.status-status.ensures;
+      wrote = packed q is;
+      told = c.tell.ensures.line;
+    })
+
+pub returns-clause-reads : goal.returns-clause-reads
+returns-clause-reads g c =
+    told_with_all (g.S.Store.content c.args.store) _ _ c.run_command-end.ensures.read (λ files read q is. let r = read q is in record {
+      outcome = _;
+      status_is = c.status-status.ensures;
+      reads = r.reads;
+      made = r.made;
+      wrote = r.wrote;
+      told = c.tell.ensures.line;
+    })
+
+pub returns-clause-serve : goal.returns-clause-serve
+returns-clause-serve g c =
+    told_with_all (g.S.Store.content c.args.store) _ _ c.run_command-end.ensures.served (λ files served root settings addr count is. let s = served orders.OneByOne root settings addr count is in record {
+      outcome = _;
+      status_is = c.status-status.ensures;
+      does = s.0;
+      logged = s.1;
+      told = c.tell.ensures.line;
+    })
+
+pub returns-clause-turns : goal.returns-clause-turns
+returns-clause-turns g c =
+    told_with_all (g.S.Store.content c.args.store) _ _ c.run_command-end.ensures.served (λ files served root settings addr count is. let s = served orders.InTurns root settings addr count is in record {
+      outcome = _;
+      status_is = c.status-status.ensures;
+      does = s.0;
+      logged = s.1;
       told = c.tell.ensures.line;
     })

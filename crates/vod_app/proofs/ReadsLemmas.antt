@@ -1,0 +1,198 @@
+-- What `reads` logs and writes, step by step.
+use Rattle.std.proofs.Common.{◌≡◌, ◌≢◌, ℕ, Bool, true, List, [], ◌++◌, ◌⊎◌, inl, inr, flat_map, map, take, get_or, length, ◌<◌, ◌+◌, IfSome, Option, Some, None, Result, Ok, Err, refl, sym, ap, ◌∙◌, subst}
+use Rattle.std.proofs.lemmas.Grind.{flat_map-append}
+use Rattle.vod_types.specs.declared.refusal.Refusal.{Refusal}
+use Rattle.vod_types.specs.declared.refusal.Refusal.TheVariants.{NoMemory, StoreFailed}
+use Rattle.vod_types.specs.declared.paths.Ask.{Ask}
+use Rattle.vod_types.specs.Results.{◌>>=◌}
+use Rattle.vod_types.specs.Settled.{Settled}
+use Rattle.list_model.specs.Command.{Outcome, Requested, done, usage, refused, no_memory, store_failed, sink_failed, door_failed, read_line, reads_text}
+use Rattle.list_model.specs.Reply.{Answer, End, whole, bad_nal}
+use Rattle.vod_source.specs.Calls.{LogsReads}
+use Rattle.vod_source.specs.Logs.{LoggedValue, reads_of}
+use Rattle.vod_source.specs.Stored.{Files, Read}
+use Rattle.vod_source.specs.Told.{told_with, GrewByPrefix}
+use Rattle.vod_source.proofs.CallLemmas.{told_with_all}
+use Rattle.vod_source.proofs.ToldLemmas.{GrewByPrefix-front, GrewByPrefix-same, GrewByPrefix-whole, told_with-nil}
+use Rattle.origin_model.specs.Answers.{answer}
+use Rattle.origin_model.specs.Outcomes.{AreRequestReads, GainsDue, GainsReads, due_answer, end_refusal, get_due, reads_due, run_setup, setup_with}
+use Rattle.origin_model.specs.Reads.{AreReads, path_reads}
+use Rattle.origin_model.specs.Requests.{Setup}
+use Rattle.flat_segments.specs.Bodies.{cut_of}
+use Rattle.flat_segments.specs.declared.body.FlatBody.{FlatBody}
+use Rattle.mp4_flat.specs.Flat.{IsFlatAnswer, flat_seen}
+use Rattle.vod_app.specs.Runs.{AreSettingsRead, cut_refusal, refused_outcome}
+use Rattle.vod_app.specs.ReadsRuns.{AreReadsWritten, EndsWith, IsEnd, IsLogged, IsReads, WritesReads}
+use Rattle.vod_app.proofs.RunLemmas.{are_some_reads, by_refusal, flat_refused, gained_all, gained_refused, some_reads}
+
+-- ---- what an answer over an empty log leaves in it
+
+-- the cut of a body is the refusal with which its answer ends
+end_seen : (end : End) → end_refusal end ≡ cut_refusal (cut_of end)
+end_seen whole = refl
+end_seen (bad_nal file sample) = refl
+
+abbrev cut_in : Option (ℕ × ℕ) → Result (List ℕ × Option (ℕ × ℕ)) Refusal → Option (ℕ × ℕ)
+cut_in other (Ok seen) = seen.1
+cut_in other (Err r) = other
+
+cut_seen : (due : Answer) (bytes : List ℕ) (cut : Option (ℕ × ℕ)) → flat_seen due ≡ Ok (bytes, cut) → (due_answer due).1 ≡ cut_refusal cut
+cut_seen (Ok body) bytes cut e =
+    let same : cut_of body.end ≡ cut = ap (cut_in cut) e in
+    subst (λ (seen : Option (ℕ × ℕ)). end_refusal body.end ≡ cut_refusal seen) same (end_seen body.end)
+cut_seen (Err r) bytes cut e = absurd cc
+
+-- whatever the end, the log is the front of the reads
+in_front : (due : Option Refusal) (outcome : Outcome) (reads log : List Read) → EndsWith due outcome → GainsReads reads outcome (Some []) (Some log)
+    → GrewByPrefix (Some []) (Some log) reads
+in_front due done reads log ends e = GrewByPrefix-whole (Some []) (Some log) reads e
+in_front due (refused r) reads log ends e = GrewByPrefix-whole (Some []) (Some log) reads e
+in_front due store_failed reads log ends e = e
+in_front due sink_failed reads log ends e = e
+in_front due no_memory reads log ends e = e
+in_front due usage reads log ends e = absurd ends
+in_front due door_failed reads log ends e = absurd ends
+
+module _ (built : Ask → Bool) (o : Setup) (given path : List ℕ) (outcome : Outcome) (log : List Read) where
+  -- the refusal of the answer that is due in the end
+  abbrev last : Option Refusal
+  last = (due_answer (answer built o path None)).1
+
+  pub logged_end : (answered : Result FlatBody Refusal) → given ≡ path → IsFlatAnswer built o given answered (Some []) (Some log)
+      → IsEnd answered outcome → IsLogged built o path outcome log
+  logged_end (Ok body) same a ends =
+      let b = subst (λ p. IsFlatAnswer built o p (Ok body) (Some []) (Some log)) same a in
+      let ends_so = subst (λ due. EndsWith due outcome) (sym (cut_seen (answer built o path None) body.bytes.items body.cut b.answered)) ends in
+      record {
+        ends = ends_so;
+        reads = b.reads;
+        reads_are = b.reads_are;
+        logged = gained_all ([], last) outcome (Some []) (Some []) b.reads (Some []) (Some log) ends_so b.logged;
+      }
+  logged_end (Err r) same a ends =
+      let b = subst (λ p. IsFlatAnswer built o p (Err r) (Some []) (Some log)) same a in
+      let gained =
+      gained_refused ([], last) b.reads (Some []) (Some []) (Some log) r
+      (λ known_memory known_store. ap (λ due. ([], (due_answer due).1)) (flat_refused (answer built o path None) r (b.answered known_memory known_store)))
+      b.logged
+      in
+      subst (λ told. IsLogged built o path told log) (sym ends) (record { ends = gained.0; reads = b.reads; reads_are = b.reads_are; logged = gained.1 })
+
+  -- whatever it was, where memory ran out for the log
+  pub logged_memory : (answered : Result FlatBody Refusal) → given ≡ path → IsFlatAnswer built o given answered (Some []) (Some log)
+      → outcome ≡ no_memory → IsLogged built o path outcome log
+  logged_memory answered same a e =
+      let b = subst (λ p. IsFlatAnswer built o p answered (Some []) (Some log)) same a in
+      subst (λ told. IsLogged built o path told log) (sym e)
+      (record { ends = GrewByPrefix-same (Some []) (Some []) [] refl; reads = b.reads; reads_are = b.reads_are; logged = some_of answered b.reads b.logged })
+    where
+      some_of : (answered : Result FlatBody Refusal) (reads : List Read) → LogsReads answered reads (Some []) (Some log) → GrewByPrefix (Some []) (Some log) reads
+      some_of (Ok body) reads e = GrewByPrefix-whole (Some []) (Some log) reads e
+      some_of (Err r) reads g = g.0
+
+-- of a store that kept an empty log at first
+module _ {S : Type 0} (content : S → Option Files) (built : Ask → Bool) (o : Files → Setup) (given path : List ℕ) (outcome : Outcome) where
+  abbrev Told : LoggedValue S → LoggedValue S → Result FlatBody Refusal → Type 0
+  Told before now answered =
+      IfSome (content before.inner) (λ files. IsFlatAnswer built (o files) given answered (Some (reads_of before.names before.entries)) (Some (reads_of now.names now.entries)))
+
+  pub logged_from : (before now same : LoggedValue S) (store : S) (answered : Result FlatBody Refusal)
+      → before ≡ record { inner = store; names = []; entries = []; refused = 0 } → Told before now answered → given ≡ path
+      → IsEnd answered outcome ⊎ (outcome ≡ no_memory) → same ≡ now
+      → IfSome (content store) (λ files. IsLogged built (o files) path outcome (reads_of same.names same.entries))
+  logged_from before now same store answered fresh told given_is ends is =
+      subst (λ (l : LoggedValue S). IfSome (content store) (λ files. IsLogged built (o files) path outcome (reads_of l.names l.entries))) (sym is)
+      (told_with_all (content store) _ _ (subst (λ (l : LoggedValue S). Told l now answered) fresh told) (λ files a. elim ends [
+        | inl end ↦ logged_end built (o files) given path outcome (reads_of now.names now.entries) answered given_is a end
+        | inr none ↦ logged_memory built (o files) given path outcome (reads_of now.names now.entries) answered given_is a none
+      ]))
+
+-- ---- the lines of a log
+
+-- a prefix of its lines is one of all lines
+lines_front : (log reads : List Read) {out out_now : Option (List ℕ)} → GrewByPrefix (Some []) (Some log) reads
+    → GrewByPrefix out out_now (reads_text log) → GrewByPrefix out out_now (reads_text reads)
+lines_front log reads g wrote =
+    let same : g.front ≡ log = cc in
+    let split : reads ≡ log ++ g.back = g.split ∙ ap (λ front. front ++ g.back) same in
+    GrewByPrefix-front (reads_text log) (reads_text g.back) (reads_text reads) (ap reads_text split ∙ flat_map-append read_line log g.back) wrote
+
+-- a log of all reads
+all_of : (log reads : List Read) → Some log ≡ told_with (Some []) reads → log ≡ reads
+all_of log reads e = cc
+
+module _ (log : List Read) (out out_now : Option (List ℕ)) where
+  -- all of them were written
+  pub wrote_all : (ended : Outcome) → out_now ≡ told_with out (reads_text log) → WritesReads log ended ended out out_now
+  wrote_all done e due reads ends logged = (ends.0, e ∙ ap (λ (l : List Read). told_with out (reads_text l)) (all_of log reads logged))
+  wrote_all (refused r) e due reads ends logged = (ends.0, e ∙ ap (λ (l : List Read). told_with out (reads_text l)) (all_of log reads logged))
+  wrote_all store_failed e due reads ends logged = lines_front log reads logged (GrewByPrefix-whole out out_now (reads_text log) e)
+  wrote_all sink_failed e due reads ends logged = lines_front log reads logged (GrewByPrefix-whole out out_now (reads_text log) e)
+  wrote_all no_memory e due reads ends logged = lines_front log reads logged (GrewByPrefix-whole out out_now (reads_text log) e)
+  wrote_all usage e due reads ends logged = ends
+  wrote_all door_failed e due reads ends logged = ends
+
+  -- the output failed
+  pub wrote_some : (ended : Outcome) → GrewByPrefix out out_now (reads_text log) → WritesReads log ended sink_failed out out_now
+  wrote_some ended wrote due reads ends logged = lines_front log reads (in_front due ended reads log ends logged) wrote
+
+  -- there was no memory for them
+  pub wrote_none : (ended : Outcome) → out_now ≡ out → WritesReads log ended no_memory out out_now
+  wrote_none ended e due reads ends logged = GrewByPrefix-same out out_now (reads_text reads) e
+
+-- ---- a whole run
+
+-- of a request that was logged
+pub reads_written : (built : Ask → Bool) (o : Setup) (path : List ℕ) (ended outcome : Outcome) (log : List Read) (out out_now : Option (List ℕ))
+    → IsLogged built o path ended log → WritesReads log ended outcome out out_now → AreReadsWritten built o path outcome out out_now
+reads_written built o path ended outcome log out out_now is wrote =
+    record { reads = is.reads; reads_are = is.reads_are; wrote = wrote (due_answer (answer built o path None)).1 is.reads is.ends is.logged }
+
+-- of one for which there was no memory
+pub reads_unmade : (built : Ask → Bool) (o : Setup) (path : List ℕ) (out : Option (List ℕ)) → AreReadsWritten built o path no_memory out out
+reads_unmade built o path out =
+    let reads = path_reads built o [] true [] path None in
+    record { reads = reads; reads_are = record { taken = []; are = refl }; wrote = GrewByPrefix-same out out (reads_text reads) refl }
+
+module _ (built : Ask → Bool) (files : Files) (q : Requested) where
+  abbrev reads_due_of : Result Setup Refusal → List Read → List ℕ × Option Refusal
+  reads_due_of s reads = (reads_text reads, (due_answer (s >>= λ o. answer built o q.path None)).1)
+
+  reads_due-is : (reads : List Read) → reads_due built files q reads ≡ reads_due_of (run_setup files q) reads
+  unfolding reads_due get_due
+  reads_due-is reads = refl
+
+  -- whose settings are refused
+  pub reads_refused : (outcome : Outcome) (r : Refusal) (out : Option (List ℕ)) (log log_now : Option (List Read))
+      → outcome ≡ refused_outcome r → AreSettingsRead files q.settings (Err r) log log_now → IsReads built files q outcome out out
+  reads_refused outcome r out log log_now e a =
+      let setup : (r ≢ NoMemory → r ≢ StoreFailed → run_setup files q ≡ Err r) = (λ known_memory known_store.
+      ap (λ s. s >>= λ settings. Ok (setup_with files q settings)) (a.answered known_memory known_store))
+      in
+      let reads = some_reads built q true (run_setup files q) in
+      let due = reads_due built files q reads in
+      let wrote =
+      by_refusal (λ r outcome. (r ≢ NoMemory → r ≢ StoreFailed → due ≡ ([], Some r)) → GainsDue due outcome out out)
+      (λ refuses. GrewByPrefix-same out out due.0 refl)
+      (λ refuses. GrewByPrefix-same out out due.0 refl)
+      (λ r known_memory known_store refuses. subst (λ due. GainsDue due (refused r) out out) (sym (refuses known_memory known_store)) (refl, sym (told_with-nil out)))
+      r
+      (λ known_memory known_store.
+      reads_due-is reads ∙ ap (λ s. reads_due_of s (some_reads built q true s)) (setup known_memory known_store))
+      in
+      record {
+        reads = reads;
+        made = are_some_reads built files q true (run_setup files q);
+        wrote = subst (λ told. GainsDue due told out out) (sym e) wrote;
+      }
+
+  pub reads_with_settings : (s : Settled) (outcome : Outcome) (out out_now : Option (List ℕ)) (log log_mid : Option (List Read))
+      → AreSettingsRead files q.settings (Ok s) log log_mid → AreReadsWritten built (setup_with files q s) q.path outcome out out_now
+      → IsReads built files q outcome out out_now
+  reads_with_settings s outcome out out_now log log_mid a w =
+      let setup : run_setup files q ≡ Ok (setup_with files q s) = ap (λ s. s >>= λ settings. Ok (setup_with files q settings)) a.answered in
+      record {
+        reads = w.reads;
+        made = subst (λ s. AreRequestReads built files q true s w.reads) (sym setup) w.reads_are;
+        wrote = subst (λ due. GainsDue due outcome out out_now) (sym (reads_due-is w.reads ∙ ap (λ s. reads_due_of s w.reads) setup)) w.wrote;
+      }
