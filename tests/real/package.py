@@ -62,6 +62,15 @@ def ask(program, films, settings, path, folder):
     return body.decode(errors="replace")
 
 
+def named_in(name, text):
+    """What a list names, and nothing where the name isn't that of a list."""
+    if name.endswith(".m3u8"):
+        return re.findall(r'URI="([^"]+)"', text) + [line for line in text.splitlines() if line and line[0] != "#"]
+    if name.endswith(".mpd"):
+        return re.findall(r'(?:sourceURL|media)="([^"]+)"', text)
+    return []
+
+
 def package(program, films, settings, target, top, folder):
     """Asks for a list, and for all that it and the lists that it names do name."""
     left, seen = [top], set()
@@ -71,10 +80,7 @@ def package(program, films, settings, target, top, folder):
             continue
         seen.add(name)
         text = ask(program, films, settings, f"{target}/{name}", folder)
-        if name.endswith(".m3u8"):
-            left += re.findall(r'URI="([^"]+)"', text) + [line for line in text.splitlines() if line and line[0] != "#"]
-        elif name.endswith(".mpd"):
-            left += re.findall(r'(?:sourceURL|media)="([^"]+)"', text)
+        left += named_in(name, text)
     return seen
 
 
