@@ -77,7 +77,7 @@ def main():
         asked = [path for path in known if known[path]]
         links = -(-count // EACH)
         origin = Served(program, root, links)
-        first, done, start = 0, 0, time.time()
+        first, last, done, start = 0, 0, 0, time.time()
         try:
             for link_number in range(links):
                 with origin.connect() as link:
@@ -101,9 +101,11 @@ def main():
                         done += len(batch)
                         if first == 0 and done >= 1000:
                             first = origin.memory()
+                        if left:
+                            last = origin.memory()
                 if link_number % 10 == 0:
-                    print(f"{done} requests, {origin.memory()} KB, {time.time() - start:.0f} s", flush=True)
-            grown = origin.memory() - first if origin.process.poll() is None else 0
+                    print(f"{done} requests, {last} KB, {time.time() - start:.0f} s", flush=True)
+            grown = last - first
             if grown > 256:
                 sys.exit(f"FAILED: memory grew by {grown} KB from {first}")
             status, line = origin.end()

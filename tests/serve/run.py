@@ -116,9 +116,44 @@ def ask_many(program, root, path):
                     sys.exit(f"FAILED: another body in turn {turn}")
                 if turn == 9:
                     memory = origin.memory()
-            grown = origin.memory() - memory
+                if turn == 98:
+                    grown = origin.memory() - memory
             check(found[-1][1].get("connection") == "close" and drain(link) == b"", "10,000 requests on one connection have their bytes, and the last closes it")
-            check(grown <= 64, f"memory grew by {grown} KB in the last 9,000 of them")
+            check(grown <= 64, f"memory grew by {grown} KB from the thousandth to the 9,900th")
+        check(origin.end() == (0, b""), "and the program ends with 0")
+    finally:
+        origin.stop()
+
+
+def ask_heads(program, root):
+    origin = Served(program, root, 1)
+    try:
+        found, rest = replies(origin.exchange(head("/x", "HEAD") * 10001), ["HEAD"] * 10001)
+        check(len(found) == 10000 and not rest and all(it[0] == 404 for it in found), "of 10,001 requests in a row 10,000 are answered")
+        closing = [i for i, it in enumerate(found) if "connection" in it[1]]
+        check(closing == [9999], "and the last of them closes the connection")
+        check(origin.end() == (0, b""), "and the program ends with 0")
+    finally:
+        origin.stop()
+
+
+def ask_damaged(program, root, fragment):
+    """A film whose third picture has a unit that doesn't fit."""
+    words = ["ffprobe", "-v", "error", "-select_streams", "v", "-show_entries", "packet=pos", "-of", "csv=p=0", os.path.join(root, "film.mp4")]
+    place = int(subprocess.run(words, check=True, capture_output=True, text=True).stdout.split()[2].strip(","))
+    with open(os.path.join(root, "film.mp4"), "rb") as film:
+        damaged = bytearray(film.read())
+    damaged[place : place + 4] = b"\x7f\xff\xff\xff"
+    with open(os.path.join(root, "damaged.mp4"), "wb") as out:
+        out.write(damaged)
+    path = "/local/hls/damaged.mp4/seg-1-f1-v1.ts"
+    status, front, line = get(program, root, path)
+    check((status, line) == (2, b"refused 28 BadNal\n") and front, "get writes a stream before a bad sample and ends with 2")
+    origin = Served(program, root, 1)
+    try:
+        text = origin.exchange(head(path) + head(fragment))
+        found, rest = replies(text, ["GET"])
+        check(found[0][0] == 200 and found[0][2] == front and not found[0][3] and not rest, "a connection gets as much, without the last chunk and with nothing behind it")
         check(origin.end() == (0, b""), "and the program ends with 0")
     finally:
         origin.stop()
@@ -178,6 +213,8 @@ def main():
         ask_kept(program, root, lists)
         ask_oddly(program, root, stream, fragment)
         ask_many(program, root, fragment)
+        ask_heads(program, root)
+        ask_damaged(program, root, fragment)
         ask_by_curl(program, root, lists)
         count_calls(program, root, stream)
     print(f"{LINES} checks passed")
