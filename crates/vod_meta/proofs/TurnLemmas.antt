@@ -185,3 +185,8 @@ module _ {X : Type 0} (see : X → HeldMovie) (name : List ℕ) (held : List Hel
     pub tells-true : (content : Option Files) → Tells content result now log log_now → IfSome content (λ files. AreTrue files now)
     tells-true None told = tt
     tells-true (Some files) told = told.true_now
+
+-- what was put has the name of what was read
+pub named_as : {X : Type 0} (see : X → HeldMovie) (r : Result X Refusal) (m : HeldMovie) (name : List ℕ) → IfOk r (λ x. see x ≡ m) → m.name ≡ name → IfOk r (λ x. (see x).name ≡ name)
+named_as see (Ok x) m name same named = ap (λ (h : HeldMovie). h.name) same ∙ named
+named_as see (Err e) m name same named = tt
