@@ -9,7 +9,7 @@ use Rattle.std.proofs.lemmas.List.FromFn.{length-range_with_len}
 use Rattle.std.proofs.lemmas.List.Sums.{sum_by-cons}
 use Rattle.std.proofs.lemmas.Option.{slice_get-map, slice_get_within, unwrap_or-slice_get}
 use Rattle.vod_types.specs.declared.tracks.Kind.{Kind}
-use Rattle.mp4_model.specs.Samples.{flat_row, sample_count, sample_offset}
+use Rattle.mp4_model.specs.Samples.{flat_row, sample_count}
 use Rattle.segment_model.specs.Rows.{SourceTrack, TimedRow, timed_row}
 use Rattle.segment_model.specs.Timeline.{placed}
 use Rattle.segment_model.proofs.RowNumbers.{IsOfTables, number_row, rows_between_are}
@@ -31,7 +31,7 @@ get-right : {X : Type 0} (xs ys : List X) (i : ℕ) → slice_get (xs ++ ys) (le
 get-right [] ys i = ap (slice_get ys) (let e : 0 + i ≡ i = omega arith in e)
 get-right (x ∷ xs) ys i = ap (slice_get (x ∷ (xs ++ ys))) (let e : suc (length xs) + i ≡ suc (length xs + i) = omega arith in e) ∙ get-right xs ys i
 
-taken : (n a m j : ℕ) → j < n → j < m → slice_get (take n (range_with_len a m)) j ≡ Some (a + j)
+pub taken : (n a m j : ℕ) → j < n → j < m → slice_get (take n (range_with_len a m)) j ≡ Some (a + j)
 taken zero a m j h k = absurd (omega arith)
 taken (suc n) a zero j h k = absurd (omega arith)
 taken (suc n) a (suc m) zero h k = ap Some (let e : a ≡ a + 0 = omega arith in e)
@@ -49,17 +49,17 @@ module _ (kind : Kind) where
   abbrev pub row_of : ℕ → ℤ → RowRange → ℕ → TimedRow
   row_of file base r i = placed file base (timed_row (source r) (i, flat_row r.track.tables i))
 
-  of_tables : (r : RowRange) → IsRange r → IsOfTables (source r) r.track.tables
+  pub of_tables : (r : RowRange) → IsRange r → IsOfTables (source r) r.track.tables
   of_tables r is = record { rows = refl; timescale = is.usable.timescale }
 
-  numbers : RowRange → List ℕ
+  unfoldable pub numbers : RowRange → List ℕ
   numbers r = take (r.to - r.from) (range_with_len r.from (sample_count r.track.tables - r.from))
 
-  rows_are : (file : ℕ) (base : ℤ) (r : RowRange) → IsRange r → range_rows kind file base r ≡ map (placed file base) (map (number_row (source r) r.track.tables) (numbers r))
+  pub rows_are : (file : ℕ) (base : ℤ) (r : RowRange) → IsRange r → range_rows kind file base r ≡ map (placed file base) (map (number_row (source r) r.track.tables) (numbers r))
   unfolding numbers
   rows_are file base r is = ap (map (placed file base)) (rows_between_are (source r) r.track.tables r.from r.to (of_tables r is))
 
-  rows_length : (file : ℕ) (base : ℤ) (r : RowRange) → IsRange r → length (range_rows kind file base r) ≡ r.to - r.from
+  pub rows_length : (file : ℕ) (base : ℤ) (r : RowRange) → IsRange r → length (range_rows kind file base r) ≡ r.to - r.from
   unfolding numbers
   rows_length file base r is =
       let all : List ℕ = range_with_len r.from (sample_count r.track.tables - r.from) in
@@ -68,7 +68,7 @@ module _ (kind : Kind) where
       ∙ length-map (numbers r) (number_row (source r) r.track.tables)
       ∙ length-take-le (r.to - r.from) all (omega (arith, length-range_with_len r.from (sample_count r.track.tables - r.from), is.to))
 
-  row_at : (file : ℕ) (base : ℤ) (r : RowRange) (j : ℕ) → IsRange r → j < r.to - r.from → slice_get (range_rows kind file base r) j ≡ Some (row_of file base r (r.from + j))
+  pub row_at : (file : ℕ) (base : ℤ) (r : RowRange) (j : ℕ) → IsRange r → j < r.to - r.from → slice_get (range_rows kind file base r) j ≡ Some (row_of file base r (r.from + j))
   unfolding numbers
   row_at file base r j is h =
       ap (λ (xs : List TimedRow). slice_get xs j) (rows_are file base r is)
@@ -81,14 +81,14 @@ module _ (kind : Kind) where
   abbrev pub IsGood : PlannedPiece → Type 0
   IsGood p = IfSome (range_of kind p) IsRange
 
-  part_length : (file : ℕ) (p : PlannedPiece) → IsGood p → length (part file p) ≡ rows_in kind p
+  pub part_length : (file : ℕ) (p : PlannedPiece) → IsGood p → length (part file p) ≡ rows_in kind p
   part_length file p good = go (range_of kind p) good
     where
       go : (o : Option RowRange) → IfSome o IsRange → length (option_map_or (range_rows kind file p.base) o []) ≡ option_map_or (λ (r : RowRange). r.to - r.from) o 0
       go None good = refl
       go (Some r) good = rows_length file p.base r good
 
-  abbrev planned_from : ℕ → List PlannedPiece → List TimedRow
+  abbrev pub planned_from : ℕ → List PlannedPiece → List TimedRow
   planned_from a pieces = flat_map (λ (e : ℕ × PlannedPiece). part e.0 e.1) (enumerate_from a pieces)
 
   planned_at : (a : ℕ) (pieces : List PlannedPiece) (k : ℕ) (p : PlannedPiece) (j : ℕ) → AllByRecursion IsGood pieces → slice_get pieces k ≡ Some p → j < rows_in kind p
@@ -118,7 +118,7 @@ module _ (kind : Kind) where
 
   -- ---- of a plan
 
-  all_good : (pieces : List PlanPiece) → All IsPlanPiece pieces → AllByRecursion IsGood (map piece_view pieces)
+  pub all_good : (pieces : List PlanPiece) → All IsPlanPiece pieces → AllByRecursion IsGood (map piece_view pieces)
   all_good [] all = tt
   all_good (p ∷ ps) all = (good (range_of kind (piece_view p)) (λ r e. good_range kind p r (All-head IsPlanPiece p ps all) e), all_good ps (All-tail IsPlanPiece p ps all))
     where
@@ -146,12 +146,8 @@ module _ (kind : Kind) where
       ∙ row_at k p.base r j good (omega (arith, from, to))
       ∙ ap (λ (n : ℕ). Some (row_of k p.base r n)) number
 
-  -- where it begins
-  pub planned-fits : (pieces : List PlanPiece) (k : ℕ) (p : PlannedPiece) (r : RowRange) (given i : ℕ) → All FitsFile (planned_of kind (map piece_view pieces))
-      → slice_get (planned_of kind (map piece_view pieces)) given ≡ Some (row_of k p.base r i) → sample_offset r.track.tables i < 2 ^ 64
-  unfolding timed_row flat_row
-  planned-fits pieces k p r given i fits at =
-      let rows : List TimedRow = planned_of kind (map piece_view pieces) in
-      let row : TimedRow = row_of k p.base r i in
-      let got : get_or rows given row ≡ row = sym (unwrap_or-slice_get rows given row) ∙ ap (λ (o : Option TimedRow). unwrap_or o row) at in
-      subst FitsFile got (fits given row (slice_get_within rows given row at))
+-- where a row begins
+pub fits_at : (rows : List TimedRow) (i : ℕ) (row : TimedRow) → All FitsFile rows → slice_get rows i ≡ Some row → row.offset < 2 ^ 64
+fits_at rows i row fits at =
+    let got : get_or rows i row ≡ row = sym (unwrap_or-slice_get rows i row) ∙ ap (λ (o : Option TimedRow). unwrap_or o row) at in
+    subst FitsFile got (fits i row (slice_get_within rows i row at))

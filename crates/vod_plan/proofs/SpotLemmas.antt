@@ -1,6 +1,6 @@
 -- Ranges of pieces, and where cursors stand in them.
 use Rattle.std.proofs.Common.{◌≡◌, ℕ, ◌+◌, ◌-◌, ◌<◌, ◌≤◌, List, length, take, get_or, sum, ℤ, Bool, Option, Some, None, Result, Ok, Err, refl, sym, ap, subst, ◌∙◌, arith}
-use Rattle.std.specs.Prelude.{option_map, option_and_then, map, slice_get, slice_index, unwrap_or, All}
+use Rattle.std.specs.Prelude.{option_map, option_and_then, map, slice_get, slice_index, unwrap_or, All, IsSome}
 use Rattle.std.specs.Rc.{rc_value}
 use Rattle.std.specs.Result.{result_ok}
 use Rattle.std.proofs.lemmas.List.Sums.{sum_by_more, sum_by_more_le}
@@ -41,7 +41,7 @@ pub good_range : (kind : Kind) (p : PlanPiece) (r : RowRange) → IsPlanPiece p 
 good_range Video p r is e = good_in (rc_value p.meta).movie p.video r is.video e
 good_range Audio p r is e = good_in (rc_value p.meta).movie p.audio r is.audio e
 
-spanned : (kind : Kind) (p : PlanPiece) (s : RowSpan) (r : RowRange) → span_of kind p ≡ Some s → range_of kind (piece_view p) ≡ Some r → range_in (rc_value p.meta).movie s ≡ Some r
+pub spanned : (kind : Kind) (p : PlanPiece) (s : RowSpan) (r : RowRange) → span_of kind p ≡ Some s → range_of kind (piece_view p) ≡ Some r → range_in (rc_value p.meta).movie s ≡ Some r
 spanned Video p s r a e = ap (option_and_then (range_in (rc_value p.meta).movie)) (sym a) ∙ e
 spanned Audio p s r a e = ap (option_and_then (range_in (rc_value p.meta).movie)) (sym a) ∙ e
 
@@ -139,3 +139,18 @@ range_there kind p some = go (range_of kind p) some
     go : (o : Option RowRange) → 0 < option_map_or (λ (r : RowRange). r.to - r.from) o 0 → (r : RowRange) × (o ≡ Some r) × (r.from < r.to)
     go None some = absurd (omega arith)
     go (Some r) some = (r, refl, omega arith)
+
+pub range_some : (kind : Kind) (p : PlannedPiece) → IsSome (range_of kind p) → (r : RowRange) × (range_of kind p ≡ Some r)
+range_some kind p some = go (range_of kind p) some
+  where
+    go : (o : Option RowRange) → IsSome o → (r : RowRange) × (o ≡ Some r)
+    go None some = absurd cc
+    go (Some r) some = (r, refl)
+
+-- a span is one of a track without a fault
+pub none_faulty : (m : Movie) (o : Option RowSpan) (s : RowSpan) → AreRangesIn m o → o ≡ Some s → result_ok (track_view m.tracks s.track) ≡ None → ⊥
+none_faulty m o s are e faulty =
+    let is = subst (AreRangesIn m) e are in
+    let none : option_map (range_with s) (result_ok (track_view m.tracks s.track)) ≡ None = ap (option_map (range_with s)) faulty in
+    let due = is.is in
+    absurd cc

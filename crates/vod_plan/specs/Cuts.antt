@@ -1,5 +1,5 @@
 -- Tracks of which a cut keeps a part, and their samples; this project's own.
-use Rattle.std.specs.Prelude.{ℕ, ◌*◌, ◌+◌, ◌≤◌, ◌^◌, [], ℤ, pos, ◌-ℤ◌, unsigned_abs}
+use Rattle.std.specs.Prelude.{ℕ, ◌*◌, ◌+◌, ◌-◌, ◌≤◌, ◌^◌, [], ℤ, pos, ◌-ℤ◌, unsigned_abs}
 use Rattle.vod_types.specs.declared.segments.Form.{Form}
 use Rattle.vod_types.specs.declared.segments.Form.TheVariants.{Ts, Fmp4}
 use Rattle.mp4_model.specs.Clock.{to_units}
@@ -17,6 +17,10 @@ edit_of_cut cut = record { delay = cut.delay; skip = cut.skip }
 -- a track of a timescale, of which it keeps a part, where the rows don't count
 abbrev pub cut_of : Cut → ℕ → SourceTrack
 cut_of cut timescale = record { timescale = timescale; edit = edit_of_cut cut; lead_in = cut.lead_in; rows = [] }
+
+-- where a row stands in the time of its file that is decoded at a time in units
+abbrev pub place_by : Cut → ℕ → ℤ
+place_by cut units = pos (units + cut.delay - cut.from)
 
 abbrev pub flat_view : FlatSample → FlatRow
 flat_view s = record {

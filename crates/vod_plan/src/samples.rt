@@ -4,7 +4,11 @@ ghost use Rattle.std.specs.Prelude.{◌≡◌, ◌+◌, ◌*◌, ◌<◌, ◌≤
 ghost use Rattle.mp4_model.specs.Clock.{to_units, to_units_signed};
 ghost use Rattle.segment_model.specs.Rows.{timed_row, written_row};
 ghost use Rattle.segment_model.specs.Timeline.{placed};
+ghost use Rattle.media_model.specs.WritingOrder.{of_track};
+ghost use Rattle.origin_model.specs.Samples.{is_backward as is_backward_of};
+ghost use Rattle.vod_types.specs.declared.tracks.Kind.{Kind};
 ghost use Rattle.vod_plan.specs.Cuts.{cut_of, decoded_at, flat_view, timed_view, most_units, most_shift, AreSmall, IsTimely};
+ghost use Rattle.vod_plan.specs.Dues.{shown, IsDue};
 
 use crate::cut::Cut;
 use vod_types::{Form, Row, Sample};
@@ -84,6 +88,45 @@ impl TimedSample {
     }
 }
 
+/// A row that is due in a walk: the place of its piece among the pieces, where the time 0 of its file stands in 1/90000 s, and
+/// its sample.
+#[derive(Clone, Copy, Debug)]
+pub(crate) struct DueRow {
+    pub(crate) file: u32,
+    pub(crate) base: i64,
+    pub(crate) sample: TimedSample,
+}
+
+impl DueRow {
+    /// The row in a form.
+    pub(crate) fn row(&self, form: Form) -> Row
+        requires due { IsDue self.now }
+        requires fits { self.now.sample.offset < 2 ^ 64 }
+        ensures { result ≡ shown form self.now }
+    {
+        self.sample.row(form, self.file, self.base)
+    }
+
+    /// When a form decodes it.
+    pub(crate) fn decode_time(&self, form: Form) -> i64
+        requires due { IsDue self.now }
+        ensures { result ≡ (shown form self.now).sample.dts }
+    {
+        decoded(form, self.base + self.sample.place, self.sample.lead_in)
+    }
+
+    /// Whether it is shown before it is decoded, which no transport stream can do.
+    pub(crate) fn is_backward(&self, form: Form) -> bool
+        requires due { IsDue self.now }
+        ensures { (kind : Kind) → result ≡ is_backward_of form (of_track kind (shown form self.now)) }
+    {
+        match form {
+            Form::Ts => self.base + self.sample.presentation < self.decode_time(Form::Ts),
+            Form::Fmp4 => false,
+        }
+    }
+}
+
 // A transport stream begins to decode the lead-in before the place time.
 fn decoded(form: Form, place: i64, lead_in: u32) -> i64
     requires place { unsigned_abs place ≤ 2 ^ 43 }
@@ -96,7 +139,7 @@ fn decoded(form: Form, place: i64, lead_in: u32) -> i64
 }
 
 /// A time of a timescale on the clock of 1/90000 s, rounded down.
-fn to_units(timescale: u32, time: u128) -> u64
+pub(crate) fn to_units(timescale: u32, time: u128) -> u64
     requires timescale { 1 ≤ timescale }
     requires short { to_units timescale time ≤ most_units }
     ensures value { result ≡ to_units timescale time }

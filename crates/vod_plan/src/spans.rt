@@ -1,7 +1,8 @@
 //! Ranges of the rows of files.
 
-ghost use Rattle.std.specs.Prelude.{◌≡◌, [], IsSome, Some};
+ghost use Rattle.std.specs.Prelude.{◌≡◌, [], is_some, IsSome, Some};
 ghost use Rattle.std.specs.Option.{option_map_or};
+ghost use Rattle.mp4_model.specs.Samples.{sample_count};
 ghost use Rattle.vod_meta.specs.Shown.{places_of, times_of};
 ghost use Rattle.vod_plan.specs.Ranges.{range_of, RowRange};
 ghost use Rattle.vod_plan.specs.Spans.{edit_of_span, piece_view, rows_in, span_of, IsPlanPiece};
@@ -54,6 +55,14 @@ impl PlanPiece {
         }
     }
 
+    /// Whether it has a range of a kind.
+    pub(crate) fn has(&self, kind: Kind) -> bool
+        requires { IsPlanPiece self.now }
+        ensures { result ≡ is_some (range_of kind (piece_view self.now)) }
+    {
+        self.span(kind).is_some()
+    }
+
     /// The span of a kind that has rows.
     pub(crate) fn range(&self, kind: Kind) -> RowSpan
         requires some { IsSome (range_of kind (piece_view self.now)) }
@@ -73,6 +82,17 @@ impl PlanPiece {
         match self.meta.track(self.range(kind).track) {
             Ok(view) => view.timescale,
             Err(_) => 1,
+        }
+    }
+
+    /// The number of rows of its track of a kind.
+    pub(crate) fn samples(&self, kind: Kind) -> u32
+        requires some { IsSome (range_of kind (piece_view self.now)) }
+        ensures { (r : RowRange) → range_of kind (piece_view self.now) ≡ Some r → result ≡ sample_count r.track.tables }
+    {
+        match self.meta.track(self.range(kind).track) {
+            Ok(view) => view.samples,
+            Err(_) => 0,
         }
     }
 

@@ -1,11 +1,12 @@
 //! The asked tracks of a piece, in the metadata of its file.
 
-ghost use Rattle.std.specs.Prelude.{◌≡◌, ◌≢◌, ◌&&◌, ◌⊎◌, IfErr, IfOk, Some};
+ghost use Rattle.std.specs.Prelude.{◌≡◌, ◌≢◌, ◌&&◌, ◌⊎◌, IfErr, IfOk, IfSome, Some};
 ghost use Rattle.std.specs.Rc.{rc_value};
 ghost use Rattle.vod_types.specs.declared.refusal.Refusal.TheVariants.{NoMemory, StoreFailed};
 ghost use Rattle.vod_types.specs.Results.{Answers};
 ghost use Rattle.vod_types.specs.Tracks.{exposed_track, same_kind};
 ghost use Rattle.origin_model.specs.Loaded.{file_has, refusal_of_track};
+ghost use Rattle.vod_plan.specs.Selected.{AreFound, IsFound};
 ghost use Rattle.vod_plan.specs.Tracks.{asked_pair, checked_in, checked_view, pair_in};
 
 use clip_model::Piece;
@@ -45,6 +46,7 @@ pub(crate) fn check(
     ensures answers { Answers (checked_view piece.now) result (checked_in edits asked piece.now (rc_value meta).movie) }
     ensures no_store { IfErr result (λ refusal. refusal ≢ StoreFailed) }
     ensures same { IfOk result (λ c. rc_value c.meta ≡ rc_value meta) }
+    ensures found { IfOk result AreFound }
 {
     let video = match asked_of(alloc, piece, &meta, edits, Kind::Video, asked.video) {
         Ok(video) => video,
@@ -67,6 +69,7 @@ fn asked_of(
 ) -> Result<Option<AskedTrack>, Refusal>
     ensures answers { Answers (pair_in meta.now.movie) result (asked_pair edits piece.now meta.now.movie kind number) }
     ensures no_store { IfErr result (λ refusal. refusal ≢ StoreFailed) }
+    ensures found { IfOk result (λ asked. IfSome asked (IsFound meta.now.movie)) }
 {
     let Some(number) = number else {
         return Ok(None);
@@ -87,6 +90,7 @@ fn shown(
 ) -> Result<AskedTrack, Refusal>
     ensures answers { Answers (λ track. pair_in meta.now.movie (Some track)) result (asked_pair edits piece.now meta.now.movie asked.kind (Some asked.number)) }
     ensures no_store { IfErr result (λ refusal. refusal ≢ StoreFailed) }
+    ensures found { IfOk result (IsFound meta.now.movie) }
 {
     let Some(track) = exposed(meta, piece.tracks.as_slice(), asked) else {
         return Err(refusal(alloc, piece.name.as_str(), asked, TrackFault::Absent));

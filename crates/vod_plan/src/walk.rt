@@ -1,18 +1,20 @@
 //! A walk over the rows of a kind.
 
-ghost use Rattle.std.specs.Prelude.{◌≡◌, ◌+◌, ◌<◌, ◌≤◌, ◌^◌, List, length, map, slice_get, All, IsSome, MatchOption, Some};
+ghost use Rattle.std.specs.Prelude.{◌≡◌, ◌+◌, ◌*◌, ◌<◌, ◌≤◌, List, length, map, slice_get, All, IfSome, IsSome, MatchOption, Some};
 ghost use Rattle.vod_types.specs.declared.tracks.Kind.{Kind};
-ghost use Rattle.mp4_model.specs.Samples.{flat_row, sample_offset};
+ghost use Rattle.mp4_model.specs.Samples.{flat_row};
 ghost use Rattle.segment_model.specs.Rows.{timed_row, written_row};
 ghost use Rattle.segment_model.specs.Timeline.{placed};
 ghost use Rattle.origin_model.specs.Sources.{source_track};
 ghost use Rattle.vod_plan.specs.Cuts.{flat_view};
+ghost use Rattle.vod_plan.specs.Dues.{due_view, IsDue};
+ghost use Rattle.vod_plan.specs.Passes.{looks_of};
 ghost use Rattle.vod_plan.specs.Ranges.{planned_of, range_of, PlannedPiece, RowRange};
 ghost use Rattle.vod_plan.specs.Spans.{piece_view, rows_before, rows_in, IsPlanPiece};
 ghost use Rattle.vod_plan.specs.Walks.{behind, FitsFile, HasNext, IsIn, IsSpot, IsWalk};
 
 use crate::cut::Cut;
-use crate::samples::{FlatSample, TimedSample};
+use crate::samples::{DueRow, FlatSample, TimedSample};
 use crate::spans::PlanPiece;
 use chunk_runs::PlaceCursor;
 use std::sync::ledger::{Blank, Ledger};
@@ -30,6 +32,20 @@ pub(crate) struct Walk {
 }
 
 impl Walk {
+    /// A walk over so many rows, at its first one.
+    pub(crate) fn first(count: u32) -> Walk
+        ensures walk { (kind : Kind) (pieces : List PlannedPiece) → count ≡ rows_before kind pieces (length pieces) → IsWalk kind pieces result }
+        ensures given { result.given ≡ 0 }
+        ensures behind { behind result ≡ 0 }
+    {
+        Walk {
+            given: 0,
+            count,
+            piece: 0,
+            cursors: None,
+        }
+    }
+
     /// The same walk at its first row.
     pub(crate) fn restarted(self) -> Walk
         ensures given { result.given ≡ 0 }
@@ -73,21 +89,36 @@ pub(crate) fn stepped<L: Ledger>(
     ensures given { result.1.given ≡ walk.given + 1 }
 {
     let mut steps = Steps::<L>::start(blank);
-    let mut spot = entered(pieces, kind, walk, &mut steps);
-    let row = row_at(
-        &pieces[spot.piece as usize],
-        form,
-        kind,
-        &mut spot,
-        &mut steps,
-    );
+    let (due, behind) = due_at(pieces, kind, walk, &mut steps);
+    (due.row(form), behind)
+}
+
+/// The row that is due in a walk, and the walk behind it.
+pub(crate) fn due_at<L: Ledger>(
+    pieces: &[PlanPiece],
+    kind: Kind,
+    walk: Walk,
+    steps: &mut Steps<L>,
+) -> (DueRow, Walk)
+    requires few { length pieces.now ≤ 1024 }
+    requires pieces { All IsPlanPiece pieces.now }
+    requires walk { IsWalk kind (map piece_view pieces.now) walk }
+    requires left { walk.given < walk.count }
+    ensures row { slice_get (planned_of kind (map piece_view pieces.now)) walk.given ≡ Some (due_view result.0) }
+    ensures due { IsDue result.0 }
+    ensures walk { IsWalk kind (map piece_view pieces.now) result.1 }
+    ensures given { result.1.given ≡ walk.given + 1 }
+    ensures looks { steps.new + looks_of walk ≤ steps.old + looks_of result.1 }
+{
+    let mut spot = entered(pieces, kind, walk, steps);
+    let due = row_at(&pieces[spot.piece as usize], kind, &mut spot, steps);
     let walk = Walk {
         given: walk.given + 1,
         count: walk.count,
         piece: spot.piece,
         cursors: Some((spot.times, spot.places)),
     };
-    (row, walk)
+    (due, walk)
 }
 
 // Where the next row of a walk stands.
@@ -96,7 +127,8 @@ fn entered<L: Ledger>(pieces: &[PlanPiece], kind: Kind, walk: Walk, steps: &mut 
     requires pieces { All IsPlanPiece pieces.now }
     requires walk { IsWalk kind (map piece_view pieces.now) walk }
     requires left { walk.given < walk.count }
-    ensures { IsSpot kind (map piece_view pieces.now) walk.given result }
+    ensures spot { IsSpot kind (map piece_view pieces.now) walk.given result }
+    ensures looks { steps.new + 384 * behind walk ≤ steps.old + 384 * (result.piece + 1) }
 {
     if let Some(spot) = standing(pieces, kind, walk) {
         return spot;
@@ -111,6 +143,7 @@ fn standing(pieces: &[PlanPiece], kind: Kind, walk: Walk) -> Option<Spot>
     requires walk { IsWalk kind (map piece_view pieces.now) walk }
     ensures spot { MatchOption result (walk.given ≡ rows_before kind (map piece_view pieces.now) (behind walk)) (IsSpot kind (map piece_view pieces.now) walk.given) }
     ensures behind { behind walk ≤ length pieces.now }
+    ensures place { IfSome result (λ spot. spot.piece + 1 ≡ behind walk) }
 {
     let Some((times, places)) = walk.cursors else {
         return None;
@@ -142,6 +175,7 @@ fn next_piece(pieces: &[PlanPiece], kind: Kind, from: u32) -> u32
     requires pieces { All IsPlanPiece pieces.now }
     requires from { from ≤ length pieces.now }
     ensures within { result ≤ length pieces.now }
+    ensures later { from ≤ result }
     ensures same { rows_before kind (map piece_view pieces.now) result ≡ rows_before kind (map piece_view pieces.now) from }
     ensures some { (p : PlanPiece) → slice_get pieces.now result ≡ Some p → 0 < rows_in kind (piece_view p) }
 {
@@ -161,6 +195,7 @@ fn begin<L: Ledger>(piece: &PlanPiece, kind: Kind, place: u32, steps: &mut Steps
     ensures inside { (r : RowRange) → range_of kind (piece_view piece.now) ≡ Some r → IsIn r result.times result.places }
     ensures first { (r : RowRange) → range_of kind (piece_view piece.now) ≡ Some r → result.times.row ≡ r.from }
     ensures place { result.piece ≡ place }
+    ensures looks { steps.new ≤ steps.old + 384 }
 {
     let row = u64::from(piece.range(kind).from);
     let times = piece.times(kind).cursor(row, steps);
@@ -173,29 +208,28 @@ fn begin<L: Ledger>(piece: &PlanPiece, kind: Kind, place: u32, steps: &mut Steps
 }
 
 // The row at a spot, which goes on to the next one.
-fn row_at<L: Ledger>(
-    piece: &PlanPiece,
-    form: Form,
-    kind: Kind,
-    spot: &mut Spot,
-    steps: &mut Steps<L>,
-) -> Row
+fn row_at<L: Ledger>(piece: &PlanPiece, kind: Kind, spot: &mut Spot, steps: &mut Steps<L>) -> DueRow
     requires piece { IsPlanPiece piece.now }
     requires next { HasNext kind (piece_view piece.now) spot.old }
-    requires fits { (r : RowRange) → range_of kind (piece_view piece.now) ≡ Some r → sample_offset r.track.tables spot.old.times.row < 2 ^ 64 }
     ensures row { (r : RowRange) → range_of kind (piece_view piece.now) ≡ Some r →
-        result ≡ written_row form (placed spot.old.piece piece.now.base
-        (timed_row (source_track kind r.edit (Some r.track)) (spot.old.times.row, flat_row r.track.tables spot.old.times.row))) }
+        due_view result ≡ placed spot.old.piece piece.now.base
+        (timed_row (source_track kind r.edit (Some r.track)) (spot.old.times.row, flat_row r.track.tables spot.old.times.row)) }
+    ensures due { IsDue result }
     ensures inside { (r : RowRange) → range_of kind (piece_view piece.now) ≡ Some r → IsIn r spot.new.times spot.new.places }
     ensures next { spot.new.times.row ≡ spot.old.times.row + 1 }
     ensures same { spot.new.piece ≡ spot.old.piece }
+    ensures looks { steps.new ≤ steps.old + 8 }
 {
     let number = spot.times.row;
     let file = spot.piece;
     let timescale = piece.timescale(kind);
     let cut = Cut::new(kind, &piece.range(kind));
     let sample = sample_at(piece, kind, spot, steps);
-    TimedSample::new(cut, timescale, number, &sample).row(form, file, piece.base)
+    DueRow {
+        file,
+        base: piece.base,
+        sample: TimedSample::new(cut, timescale, number, &sample),
+    }
 }
 
 // The sample at a spot, which goes on to the next one.
@@ -211,6 +245,7 @@ fn sample_at<L: Ledger>(
     ensures inside { (r : RowRange) → range_of kind (piece_view piece.now) ≡ Some r → IsIn r spot.new.times spot.new.places }
     ensures next { spot.new.times.row ≡ spot.old.times.row + 1 }
     ensures same { spot.new.piece ≡ spot.old.piece }
+    ensures looks { steps.new ≤ steps.old + 8 }
 {
     let (decode_time, composition_offset, delta, sync) = spot.times.next(&piece.times(kind), steps);
     let (offset, size) = spot.places.next(&piece.places(kind), steps);

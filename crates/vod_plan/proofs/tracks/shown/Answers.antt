@@ -8,6 +8,7 @@ use Rattle.mp4_tracks.specs.Views.{good_of}
 use Rattle.origin_model.specs.Loaded.{asked_edit}
 use Rattle.vod_meta.proofs.ShownLemmas as of_meta
 use Rattle.vod_plan.proofs.CheckLemmas.{asked_edit-ignored, asked_edit-shown, edit-faulty, edit-good, pair-no_edit, pair-no_track, pair-ok, shown-absent, shown-faulty, shown-good}
+use Rattle.vod_plan.proofs.FoundSpans.{is-found}
 use Rattle.vod_plan.proofs.tracks.shown.Goals as goal
 
 pub returns-in_default-clause-answers : goal.returns-in_default-clause-answers
@@ -68,3 +69,15 @@ returns-in-Err-edit-clause-answers c = λ memory.
     (ap (λ (b : Bool). asked_edit b piece m asked.kind (Some asked.number)) c.if-not-edits.false
     ∙ asked_edit-shown piece m asked.kind asked.number
     ∙ edit-faulty piece m asked c.in-Some.track c.in-Err-edit.fault c.refusal-in-Err-edit.result exposed c.in-Err-edit.ensures (rw c.as_str-in-Err-edit.ensures at c.refusal-in-Err-edit.ensures.is) memory)
+
+pub returns-then-not-edits-clause-found : goal.returns-then-not-edits-clause-found
+returns-then-not-edits-clause-found c =
+    let m = c.args.meta.now.movie in
+    let g : GoodTrack = good_of c.in_default-track.field-0 in
+    is-found m (record { track = c.in-Some.track; edit = c.none.result }) g (of_meta.shown-good m c.in-Some.track g c.in_default-track.ensures.view.0) c.in_default-track.ensures.usable
+
+pub returns-in-Ok-clause-found : goal.returns-in-Ok-clause-found
+returns-in-Ok-clause-found c =
+    let m = c.args.meta.now.movie in
+    let g : GoodTrack = good_of c.in_default-track.field-0 in
+    is-found m (record { track = c.in-Some.track; edit = c.in-Ok.edit }) g (of_meta.shown-good m c.in-Some.track g c.in_default-track.ensures.view.0) c.in_default-track.ensures.usable

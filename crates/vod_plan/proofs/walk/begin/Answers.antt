@@ -1,9 +1,10 @@
 -- Cursors at the first row of a range.
-use Rattle.std.proofs.Common.{◌≡◌, ap, subst, ◌∙◌, arith}
+use Rattle.std.proofs.Common.{◌≡◌, true, ap, subst, ◌∙◌, arith}
 use Rattle.mp4_model.specs.Tables.{SampleTables}
 use Rattle.time_runs.specs.Cursors.{StandsAt as times_stand_at}
 use Rattle.chunk_runs.specs.Cursors.{StandsAt as places_stand_at}
-use Rattle.vod_plan.proofs.SpotLemmas.{good_range, stand_in, times_row}
+use Rattle.vod_plan.specs.Spans.{piece_view}
+use Rattle.vod_plan.proofs.SpotLemmas.{good_range, range_some, stand_in, times_row}
 use Rattle.vod_plan.proofs.walk.begin.Goals as goal
 
 pub returns-clause-inside : goal.returns-clause-inside
@@ -17,3 +18,12 @@ returns-clause-inside g c = λ r e.
 pub returns-clause-first : goal.returns-clause-first
 returns-clause-first g c = λ r e.
     times_row c.times.result.tables c.from-row.result c.cursor-times.result c.cursor-times.ensures.stands ∙ c.from-row.ensures ∙ c.range.ensures.from r e
+
+pub returns-clause-looks : goal.returns-clause-looks
+returns-clause-looks g c =
+    let found = range_some c.args.kind (piece_view c.args.piece.now) c.requires.some in
+    let timed : c.times.result.indexed ≡ true = ap (λ x. x.indexed) (c.times.ensures found.0 found.1) in
+    let placed : c.places.result.indexed ≡ true = ap (λ x. x.indexed) (c.places.ensures found.0 found.1) in
+    let first = c.cursor-times.ensures.looks timed in
+    let second = c.cursor-places.ensures.looks placed in
+    omega (arith, first, second)

@@ -1,12 +1,12 @@
 -- The next row is the first one of the next piece that has rows.
-use Rattle.std.proofs.Common.{◌≡◌, ◌<◌, length, sym, ap, ◌∙◌}
+use Rattle.std.proofs.Common.{◌≡◌, ◌<◌, length, sym, ap, ◌∙◌, arith}
 use Rattle.vod_plan.specs.Spans.{rows_before}
 use Rattle.vod_plan.proofs.SpotLemmas.{piece_at}
 use Rattle.vod_plan.proofs.WalkLemmas.{at_first, before_end, views}
 use Rattle.vod_plan.proofs.walk.entered.Goals as goal
 
-pub returns : goal.returns
-returns g c =
+pub returns-clause-spot : goal.returns-clause-spot
+returns-clause-spot g c =
     let k = c.args.kind in
     let ps = c.args.pieces.now in
     let piece = c.next_piece-piece.result in
@@ -16,3 +16,6 @@ returns g c =
     let some = c.next_piece-piece.ensures.some c.index-pieces-piece.result here in
     let place = c.begin.ensures.place in
     at_first k ps c.args.walk.given c.begin.result c.index-pieces-piece.result (rw place here) some (rw place before) c.begin.ensures.inside c.begin.ensures.first
+
+pub returns-clause-looks : goal.returns-clause-looks
+returns-clause-looks g c = omega (arith, c.begin.ensures.looks, c.begin.ensures.place, c.next_piece-piece.ensures.later, c.behind.ensures)

@@ -1,8 +1,8 @@
 -- The row of the sample at a spot.
-use Rattle.std.proofs.Common.{◌≡◌, ℕ, ℤ, SFits, w64, ap, ◌∙◌, arith}
+use Rattle.std.proofs.Common.{ℕ, ℤ, SFits, w64, ap, ◌∙◌, arith}
 use Rattle.std.proofs.lemmas.Int.{ints, to_z-of_z}
-use Rattle.mp4_model.specs.Samples.{FlatRow, flat_row, sample_offset}
-use Rattle.segment_model.specs.Rows.{TimedRow, lead_in_of, timed_row, written_row}
+use Rattle.mp4_model.specs.Samples.{FlatRow, flat_row}
+use Rattle.segment_model.specs.Rows.{TimedRow, lead_in_of, timed_row}
 use Rattle.segment_model.specs.Timeline.{placed}
 use Rattle.vod_plan.specs.Cuts.{cut_of, timed_view}
 use Rattle.vod_plan.proofs.SpotLemmas.{good_range, timely}
@@ -17,18 +17,8 @@ new-requires-clause-timely g c =
     let sample = c.sample_at-sample.ensures.sample next.range next.is_range in
     rw (timescale, sample) (timely next.range c.args.spot.now.times.row good next.left)
 
-pub row-requires-clause-fits : goal.row-requires-clause-fits
-unfolding timed_row flat_row
-row-requires-clause-fits g c =
-    let next = c.requires.next in
-    let sample = c.sample_at-sample.ensures.sample next.range next.is_range in
-    let kept : c.new.result.offset ≡ c.sample_at-sample.result.offset = ap (λ (r : TimedRow). r.offset) c.new.ensures.row in
-    let at : c.sample_at-sample.result.offset ≡ sample_offset next.range.track.tables c.args.spot.now.times.row = ap (λ (f : FlatRow). f.offset) sample in
-    omega (arith, kept, at, c.requires.fits next.range next.is_range)
-
 pub returns-clause-row : goal.returns-clause-row
 returns-clause-row g c = λ r e.
-    let form = c.args.form in
     let file : ℕ = c.args.spot.now.piece in
     let i : ℕ = c.args.spot.now.times.row in
     let base : ℤ = c.args.piece.now.base in
@@ -37,9 +27,8 @@ returns-clause-row g c = λ r e.
     let edit = c.new-cut.ensures.edit ∙ c.range.ensures.edit r e in
     let lead_in = c.new-cut.ensures.lead_in ∙ ap (lead_in_of c.args.kind) (c.range.ensures.edit r e) in
     let fits : SFits w64 base = omega (arith, ints, c.requires.piece.base) in
-    c.row.ensures
-    ∙ ap (λ (b : ℤ). written_row form (placed file b (timed_view c.new.result))) (to_z-of_z w64 base fits)
-    ∙ ap (λ (t : TimedRow). written_row form (placed file base t))
+    ap (λ (b : ℤ). placed file b (timed_view c.new.result)) (to_z-of_z w64 base fits)
+    ∙ ap (λ (t : TimedRow). placed file base t)
     (c.new.ensures.row
     ∙ ap (λ (f : FlatRow). timed_row (cut_of c.new-cut.result c.timescale-timescale.result) (i, f)) sample
     ∙ timed_row-of c.args.kind c.new-cut.result c.timescale-timescale.result r (i, flat_row r.track.tables i) edit lead_in timescale)

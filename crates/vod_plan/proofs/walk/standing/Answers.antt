@@ -1,5 +1,5 @@
 -- The row at the cursors, if there is one.
-use Rattle.std.proofs.Common.{arith}
+use Rattle.std.proofs.Common.{arith, sym}
 use Rattle.vod_plan.proofs.WalkLemmas.{all_given, at_cursors, behind-some, piece_within, range_here, there}
 use Rattle.vod_plan.proofs.walk.standing.Goals as goal
 
@@ -39,3 +39,6 @@ returns-clause-behind c =
     let ps = c.args.pieces.now in
     let within = piece_within k ps c.args.walk c.in-Some.times c.in-Some.places c.requires.walk c.in-Some.is in
     omega (arith, within, behind-some k ps c.args.walk c.in-Some.times c.in-Some.places c.requires.walk c.in-Some.is)
+
+pub returns-then-times-range-clause-place : goal.returns-then-times-range-clause-place
+returns-then-times-range-clause-place c = sym (behind-some c.args.kind c.args.pieces.now c.args.walk c.in-Some.times c.in-Some.places c.requires.walk c.in-Some.is)
