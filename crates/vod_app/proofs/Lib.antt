@@ -3,3 +3,4 @@ pub mod RunLemmas
 pub mod SettingsReadLemmas
 pub mod ServiceLemmas
 mod ReadsLemmas
+pub mod RehearsalLemmas

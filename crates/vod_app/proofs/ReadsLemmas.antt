@@ -1,5 +1,5 @@
 -- What `reads` logs and writes, step by step.
-use Rattle.std.proofs.Common.{◌≡◌, ◌≢◌, ℕ, Bool, true, List, [], ◌++◌, ◌⊎◌, inl, inr, flat_map, map, take, get_or, length, ◌<◌, ◌+◌, IfSome, Option, Some, None, Result, Ok, Err, refl, sym, ap, ◌∙◌, subst}
+use Rattle.std.proofs.Common.{◌≡◌, ◌≢◌, ℕ, Bool, true, List, [], ◌++◌, ◌⊎◌, inl, inr, IfSome, Option, Some, None, Result, Ok, Err, refl, sym, ap, ◌∙◌, subst}
 use Rattle.std.proofs.lemmas.Grind.{flat_map-append}
 use Rattle.vod_types.specs.declared.refusal.Refusal.{Refusal}
 use Rattle.vod_types.specs.declared.refusal.Refusal.TheVariants.{NoMemory, StoreFailed}
@@ -16,7 +16,7 @@ use Rattle.vod_source.proofs.CallLemmas.{told_with_all}
 use Rattle.vod_source.proofs.ToldLemmas.{GrewByPrefix-front, GrewByPrefix-same, GrewByPrefix-whole, told_with-nil}
 use Rattle.origin_model.specs.Answers.{answer}
 use Rattle.origin_model.specs.Outcomes.{AreRequestReads, GainsDue, GainsReads, due_answer, end_refusal, get_due, reads_due, run_setup, setup_with}
-use Rattle.origin_model.specs.Reads.{AreReads, path_reads}
+use Rattle.origin_model.specs.Reads.{path_reads}
 use Rattle.origin_model.specs.Requests.{Setup}
 use Rattle.flat_segments.specs.Bodies.{cut_of}
 use Rattle.flat_segments.specs.declared.body.FlatBody.{FlatBody}

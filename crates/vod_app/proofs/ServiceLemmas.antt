@@ -1,12 +1,11 @@
 -- What the commands do that serve connections.
-use Rattle.std.proofs.Common.{◌≡◌, ◌≢◌, ◌≤◌, ℕ, List, [], Option, Some, None, IfSome, Result, Ok, Err, refl, sym, ap, ◌∙◌, subst, arith, inl, inr, append-nil}
-use Rattle.std.specs.Prelude.{option_map}
+use Rattle.std.proofs.Common.{◌≡◌, ◌≢◌, ◌≤◌, ℕ, List, [], Option, Some, Result, Ok, Err, refl, sym, ap, ◌∙◌, subst, arith, inl, inr, append-nil}
 use Rattle.vod_types.specs.declared.refusal.Refusal.{Refusal}
 use Rattle.vod_types.specs.declared.refusal.Refusal.TheVariants.{NoMemory, StoreFailed}
 use Rattle.vod_types.specs.Settled.{Settled}
 use Rattle.list_model.specs.Command.{Outcome, refused, store_failed, no_memory}
 use Rattle.vod_source.specs.Calls.{LogsReads}
-use Rattle.vod_source.specs.Stored.{Files, Read}
+use Rattle.vod_source.specs.Stored.{Read}
 use Rattle.vod_session.specs.Steps.{Answers}
 use Rattle.vod_session.specs.declared.doors.DoorEnd.{DoorEnd}
 use Rattle.vod_session.specs.declared.doors.DoorEnd.TheVariants as ends

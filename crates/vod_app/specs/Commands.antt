@@ -1,27 +1,12 @@
--- Which forms of words are built so far; this project's own.
+-- The words of a command as the program reads them; this project's own.
 use Rattle.std.specs.Prelude.{ℕ, Bool, true, false, ◌==◌, bytes_eq, codes, List, Option, Some, None, option_and_then, if◌then◌else◌}
 use Rattle.vod_types.specs.Numbers.{number_up_to}
-use Rattle.vod_types.specs.Options.{passing}
-use Rattle.list_model.specs.Command.{Command, Requested, get, reads, plan, pack, serve, turns, rehearse, command_of}
+use Rattle.list_model.specs.Command.{Command, Requested, get, reads, plan, pack, serve, turns, rehearse}
 use Rattle.vod_app.specs.declared.words.Order.{Order}
 use Rattle.vod_app.specs.declared.words.Order.TheVariants as orders
 use Rattle.vod_app.specs.declared.words.Request.{Request}
 use Rattle.vod_app.specs.declared.words.Command as words
 use Rattle.vod_app.specs.declared.words.Command.TheVariants as commands
-
--- Words of every other form end with the usage line.
-abbrev pub is_built : Command → Bool
-is_built (get q) = true
-is_built (reads q) = true
-is_built (plan q) = true
-is_built (pack q) = true
-is_built (serve root settings addr count) = true
-is_built (turns root settings addr count) = true
-is_built (rehearse n) = false
-
--- the command that the words spell, if it is built
-unfoldable pub built_command : List (List ℕ) → Option Command
-built_command words = option_and_then (passing is_built) (command_of words)
 
 -- what a request asks for
 abbrev pub requested : Request → Requested
@@ -59,3 +44,4 @@ spelled (commands.Reads request) = reads (requested request)
 spelled (commands.Plan request) = plan (requested request)
 spelled (commands.Pack request) = pack (requested request)
 spelled (commands.Serve service) = serving service.order service.root.now service.settings.now service.addr.now service.count
+spelled (commands.Rehearse n) = rehearse n

@@ -2,3 +2,4 @@ pub mod Commands
 pub mod ReadsRuns
 pub mod Runs
 pub mod Services
+pub mod Rehearsals

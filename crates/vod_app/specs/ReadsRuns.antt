@@ -2,7 +2,7 @@
 use Rattle.std.specs.Prelude.{◌≡◌, ℕ, Bool, true, List, [], Option, Some, None, Result, MatchResult}
 use Rattle.vod_types.specs.declared.paths.Ask.{Ask}
 use Rattle.vod_types.specs.declared.refusal.Refusal.{Refusal}
-use Rattle.list_model.specs.Command.{Requested, Outcome, done, usage, refused, store_failed, sink_failed, no_memory, door_failed, outcome_status, reads_text}
+use Rattle.list_model.specs.Command.{Requested, Outcome, outcome_status, reads_text}
 use Rattle.vod_source.specs.Stored.{Files, Read}
 use Rattle.origin_model.specs.Answers.{answer}
 use Rattle.origin_model.specs.Outcomes.{AreRequestReads, GainsDue, GainsLine, GainsReads, due_answer, reads_due, run_setup}

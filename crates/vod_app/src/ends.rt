@@ -9,7 +9,7 @@ use vod_types::Refusal;
 pub enum End {
     /// All is done.
     Done,
-    /// The words are of no form that is built.
+    /// The words are of no form.
     Usage,
     /// The request was refused, or its body is cut by a bad sample.
     Refused(Refusal),

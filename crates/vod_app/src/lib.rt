@@ -2,38 +2,28 @@
 #![tactic(auto)]
 
 ghost use Rattle.std.specs.Prelude.{◌≡◌, ◌↔◌, ◌≤◌, ◌<◌, ℕ, List, IfSome, None, Some, false, true, map, string_bytes};
-ghost use Rattle.list_model.specs.Command.{Requested, door_failed, get as get_of, pack as pack_of, plan as plan_of, reads as reads_of, serve as serve_of, sink_failed, store_failed, turns as turns_of, usage};
+ghost use Rattle.list_model.specs.Command.{Requested, command_of, door_failed, get as get_of, pack as pack_of, plan as plan_of, reads as reads_of, rehearse as rehearse_of, serve as serve_of, sink_failed, store_failed, turns as turns_of, usage};
 ghost use Rattle.vod_source.specs.Causes.{Rose};
 ghost use Rattle.origin_model.specs.Outcomes.{GetOutcome, settings_named, settings_reads};
 ghost use Rattle.mp4_flat.specs.Built.{built_paths};
 ghost use Rattle.mp4_flat.specs.Listings.{every_path};
 ghost use Rattle.vod_turns.specs.Outcomes.{AreTurnedBy, IsServedBy};
 ghost use Rattle.vod_app.specs.declared.words.Order.{Order};
-ghost use Rattle.vod_app.specs.Commands.{built_command, opens_door, serving};
+ghost use Rattle.vod_app.specs.Commands.{opens_door, serving};
 ghost use Rattle.vod_app.specs.Runs.{IsGet, IsPack, IsPlan, PackOutcome, PlanOutcome, TellsOutcome, outcome_of};
 ghost use Rattle.vod_app.specs.ReadsRuns.{IsReads, ReadsOutcome};
+ghost use Rattle.vod_app.specs.Rehearsals.{IsRehearsed, RehearsalOutcome};
 ghost use Rattle.vod_app.specs.Services.{DoesBy, LogsSettings, ServiceOutcome, answers_with};
 
 mod ends;
 mod lines;
-#[cfg(test)]
-mod pack_tests;
 mod packs;
-#[cfg(test)]
-mod plan_tests;
 mod plans;
 mod reads;
+mod rehearsals;
 mod requests;
-#[cfg(test)]
-mod segment_tests;
-#[cfg(test)]
-mod serve_tests;
 mod serves;
 mod settings;
-#[cfg(test)]
-mod test_films;
-#[cfg(test)]
-mod tests;
 mod watched;
 mod words;
 
@@ -42,6 +32,7 @@ use lines::tell;
 use packs::pack;
 use plans::plan;
 use reads::reads;
+use rehearsals::rehearse;
 use requests::get;
 use serves::{Done, serve};
 use std::alloc::Global;
@@ -66,6 +57,7 @@ pub struct Ended<S> {
 /// | `pack ROOT SETTINGS PATH` | each name that the master playlist or media presentation description of PATH lists, with its answer |
 /// | `serve ROOT SETTINGS ADDR COUNT` | nothing: COUNT connections to ADDR are served, one after another |
 /// | `turns ROOT SETTINGS ADDR COUNT` | nothing: COUNT connections to ADDR, at most 64, are served in turns |
+/// | `rehearse N` | one line on the film of N, which is made in memory, packed, and asked for segment by segment |
 ///
 /// `get` answers every path of the grammar but that of a clip, which it refuses as a form that isn't built; `plan` answers media
 /// playlists. Times are in 1/90000 s, and a line has one space between its numbers. `pack` writes a line `NAME LENGTH`, or
@@ -75,7 +67,7 @@ pub struct Ended<S> {
 /// | status | where | line on `err` |
 /// |---|---|---|
 /// | 0 | all done | none |
-/// | 1 | the words are of no form that is built | the usage line |
+/// | 1 | the words are of no form | the usage line |
 /// | 2 | the settings or the path are refused, or the body is cut by a bad sample | `refused N NAME` |
 /// | 3 | the store failed | `store failed` |
 /// | 4 | `out` failed | none |
@@ -93,42 +85,47 @@ pub fn run<S: Store, D: Door, K: Sink, E: Sink>(
     err: &mut E,
 ) -> Ended<S>
     // Status 1 is that of words that spell no command: nothing is written then, and the store is as it was.
-    ensures usage { (result.status ≡ 1) ↔ (built_command (map string_bytes words.now) ≡ None) }
+    ensures usage { (result.status ≡ 1) ↔ (command_of (map string_bytes words.now) ≡ None) }
     ensures unused { result.status ≡ 1 → out.new ≡ out.old }
     ensures unread { result.status ≡ 1 → result.store ≡ store }
 
     // Only a command that serves connections opens the door, and it writes nothing to `out`.
-    ensures door { opens_door (built_command (map string_bytes words.now)) ≡ false → door.new ≡ door.old }
-    ensures served_unwritten { opens_door (built_command (map string_bytes words.now)) ≡ true → out.new ≡ out.old }
+    ensures door { opens_door (command_of (map string_bytes words.now)) ≡ false → door.new ≡ door.old }
+    ensures served_unwritten { opens_door (command_of (map string_bytes words.now)) ≡ true → out.new ≡ out.old }
 
     // What `get` writes and reads, wherever the store tells its content.
-    ensures get { IfSome (S.content store) (λ files. (q : Requested) → built_command (map string_bytes words.now) ≡ Some (get_of q) →
+    ensures get { IfSome (S.content store) (λ files. (q : Requested) → command_of (map string_bytes words.now) ≡ Some (get_of q) →
         GetOutcome built_paths files q result.status (K.written out.old) (K.written out.new) (S.log store) (S.log result.store)
         (E.written err.old) (E.written err.new) (E.faults err.old) (E.faults err.new)) }
 
     // The same of `plan`.
-    ensures plan { IfSome (S.content store) (λ files. (q : Requested) → built_command (map string_bytes words.now) ≡ Some (plan_of q) →
+    ensures plan { IfSome (S.content store) (λ files. (q : Requested) → command_of (map string_bytes words.now) ≡ Some (plan_of q) →
         PlanOutcome every_path files q result.status (K.written out.old) (K.written out.new) (S.log store) (S.log result.store)
         (E.written err.old) (E.written err.new) (E.faults err.old) (E.faults err.new)) }
 
     // What `pack` writes.
-    ensures pack { IfSome (S.content store) (λ files. (q : Requested) → built_command (map string_bytes words.now) ≡ Some (pack_of q) →
+    ensures pack { IfSome (S.content store) (λ files. (q : Requested) → command_of (map string_bytes words.now) ≡ Some (pack_of q) →
         PackOutcome every_path files q result.status (K.written out.old) (K.written out.new)
         (E.written err.old) (E.written err.new) (E.faults err.old) (E.faults err.new)) }
 
     // What `reads` writes of the reads that it makes; of the store's own log it says nothing.
-    ensures reads { IfSome (S.content store) (λ files. (q : Requested) → built_command (map string_bytes words.now) ≡ Some (reads_of q) →
+    ensures reads { IfSome (S.content store) (λ files. (q : Requested) → command_of (map string_bytes words.now) ≡ Some (reads_of q) →
         ReadsOutcome built_paths files q result.status (K.written out.old) (K.written out.new)
         (E.written err.old) (E.written err.new) (E.faults err.old) (E.faults err.new)) }
 
+    // What `rehearse` writes. It asks nothing of the store.
+    ensures rehearse { (n : ℕ) → command_of (map string_bytes words.now) ≡ Some (rehearse_of n) →
+        RehearsalOutcome n result.status (K.written out.old) (K.written out.new) (E.written err.old) (E.written err.new) (E.faults err.old) (E.faults err.new) }
+    ensures rehearsed_unread { (n : ℕ) → command_of (map string_bytes words.now) ≡ Some (rehearse_of n) → result.store ≡ store }
+
     // What `serve` does with the links of the door, and `turns`, wherever the store tells its content.
-    ensures serve { IfSome (S.content store) (λ files. (root settings addr : List ℕ) (count : ℕ) → built_command (map string_bytes words.now) ≡ Some (serve_of root settings addr count) →
+    ensures serve { IfSome (S.content store) (λ files. (root settings addr : List ℕ) (count : ℕ) → command_of (map string_bytes words.now) ≡ Some (serve_of root settings addr count) →
         ServiceOutcome (IsServedBy D.L.left D.L.written (settings_named files settings) (answers_with built_paths files root) count
         (record { coming = D.coming door.old; returned = D.returned door.old; out = D.out door.old })
         (record { coming = D.coming door.new; returned = D.returned door.new; out = D.out door.new })
         (S.faults store) (S.faults result.store)) (settings_reads files settings) result.status (S.log store) (S.log result.store)
         (E.written err.old) (E.written err.new) (E.faults err.old) (E.faults err.new)) }
-    ensures turns { IfSome (S.content store) (λ files. (root settings addr : List ℕ) (count : ℕ) → built_command (map string_bytes words.now) ≡ Some (turns_of root settings addr count) →
+    ensures turns { IfSome (S.content store) (λ files. (root settings addr : List ℕ) (count : ℕ) → command_of (map string_bytes words.now) ≡ Some (turns_of root settings addr count) →
         ServiceOutcome (AreTurnedBy D.L.left D.L.written (settings_named files settings) (answers_with built_paths files root) count
         (record { coming = D.coming door.old; returned = D.returned door.old; out = D.out door.old })
         (record { coming = D.coming door.new; returned = D.returned door.new; out = D.out door.new })
@@ -165,20 +162,22 @@ fn run_command<S: Store, D: Door, K: Sink>(
     door: &mut D,
     out: &mut K,
 ) -> Done<S>
-    ensures form { (outcome_of result.end ≡ usage) ↔ (built_command (map string_bytes words.now) ≡ None) }
+    ensures form { (outcome_of result.end ≡ usage) ↔ (command_of (map string_bytes words.now) ≡ None) }
     ensures unused { outcome_of result.end ≡ usage → out.new ≡ out.old }
     ensures unread { outcome_of result.end ≡ usage → result.store ≡ store }
-    ensures door { opens_door (built_command (map string_bytes words.now)) ≡ false → door.new ≡ door.old }
-    ensures served_unwritten { opens_door (built_command (map string_bytes words.now)) ≡ true → out.new ≡ out.old }
-    ensures got { IfSome (S.content store) (λ files. (q : Requested) → built_command (map string_bytes words.now) ≡ Some (get_of q) →
+    ensures door { opens_door (command_of (map string_bytes words.now)) ≡ false → door.new ≡ door.old }
+    ensures served_unwritten { opens_door (command_of (map string_bytes words.now)) ≡ true → out.new ≡ out.old }
+    ensures got { IfSome (S.content store) (λ files. (q : Requested) → command_of (map string_bytes words.now) ≡ Some (get_of q) →
         IsGet built_paths files q (outcome_of result.end) (K.written out.old) (K.written out.new) (S.log store) (S.log result.store)) }
-    ensures planned { IfSome (S.content store) (λ files. (q : Requested) → built_command (map string_bytes words.now) ≡ Some (plan_of q) →
+    ensures planned { IfSome (S.content store) (λ files. (q : Requested) → command_of (map string_bytes words.now) ≡ Some (plan_of q) →
         IsPlan every_path files q (outcome_of result.end) (K.written out.old) (K.written out.new) (S.log store) (S.log result.store)) }
-    ensures packed { IfSome (S.content store) (λ files. (q : Requested) → built_command (map string_bytes words.now) ≡ Some (pack_of q) →
+    ensures packed { IfSome (S.content store) (λ files. (q : Requested) → command_of (map string_bytes words.now) ≡ Some (pack_of q) →
         IsPack every_path files q (outcome_of result.end) (K.written out.old) (K.written out.new)) }
-    ensures read { IfSome (S.content store) (λ files. (q : Requested) → built_command (map string_bytes words.now) ≡ Some (reads_of q) →
+    ensures read { IfSome (S.content store) (λ files. (q : Requested) → command_of (map string_bytes words.now) ≡ Some (reads_of q) →
         IsReads built_paths files q (outcome_of result.end) (K.written out.old) (K.written out.new)) }
-    ensures served { IfSome (S.content store) (λ files. (order : Order) (root settings addr : List ℕ) (count : ℕ) → built_command (map string_bytes words.now) ≡ Some (serving order root settings addr count) →
+    ensures rehearsed { (n : ℕ) → command_of (map string_bytes words.now) ≡ Some (rehearse_of n) →
+        IsRehearsed n (outcome_of result.end) (K.written out.old) (K.written out.new) × (result.store ≡ store) }
+    ensures served { IfSome (S.content store) (λ files. (order : Order) (root settings addr : List ℕ) (count : ℕ) → command_of (map string_bytes words.now) ≡ Some (serving order root settings addr count) →
         DoesBy D.L.left D.L.written (settings_named files settings) (answers_with built_paths files root) count
         (record { coming = D.coming door.old; returned = D.returned door.old; out = D.out door.old })
         (record { coming = D.coming door.new; returned = D.returned door.new; out = D.out door.new })
@@ -208,6 +207,10 @@ fn run_command<S: Store, D: Door, K: Sink>(
         }
         Some(Command::Reads(request)) => reads(alloc, request, store, out),
         Some(Command::Serve(service)) => serve(alloc, service, store, door),
+        Some(Command::Rehearse(n)) => {
+            let end = rehearse(alloc, n, out);
+            Done { end, store }
+        }
         None => Done {
             end: End::Usage,
             store,

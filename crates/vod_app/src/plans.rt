@@ -91,8 +91,8 @@ pub fn put_plan<K: Sink>(alloc: Global, rows: &[Listed], out: &mut K) -> End
     }
 }
 
-// Writes a text in one call.
-fn put_text<K: Sink>(text: &str, out: &mut K) -> End
+/// Writes a text in one call.
+pub fn put_text<K: Sink>(text: &str, out: &mut K) -> End
     ensures wrote { GainsDue (text.now, None) (outcome_of result) (K.written out.old) (K.written out.new) }
     ensures form { outcome_of result ≢ usage }
     ensures door { outcome_of result ≢ door_failed }

@@ -34,7 +34,7 @@ pub struct Service<'a> {
     pub order: Order,
 }
 
-/// A command that is built.
+/// A command.
 #[derive(Clone, Copy, Debug)]
 pub enum Command<'a> {
     /// Writes the answer of a path.
@@ -47,25 +47,46 @@ pub enum Command<'a> {
     Pack(Request<'a>),
     /// Serves connections.
     Serve(Service<'a>),
+    /// Rehearses the film of a number.
+    Rehearse(u32),
 }
 
 impl<'a> Command<'a> {
-    ghost use Rattle.vod_app.specs.Commands.{built_command, spelled};
+    ghost use Rattle.list_model.specs.Command.{command_of};
+    ghost use Rattle.vod_app.specs.Commands.{spelled};
 
-    /// Reads `get|reads|plan|pack ROOT SETTINGS PATH` or `serve|turns ROOT SETTINGS ADDR COUNT`, none of whose words is empty;
-    /// `None` where the words are of no form that is built. COUNT is from 1 and at most 64 for `turns`.
+    /// Reads `get|reads|plan|pack ROOT SETTINGS PATH`, `serve|turns ROOT SETTINGS ADDR COUNT` or `rehearse N`, none of whose
+    /// words is empty; `None` where the words are of no form. COUNT is from 1 and at most 64 for `turns`.
     pub fn read(words: &'a [String]) -> Option<Command<'a>>
         ensures { MatchOption result
-            (built_command (map string_bytes words.now) ≡ None)
-            (λ command. built_command (map string_bytes words.now) ≡ Some (spelled command)) }
+            (command_of (map string_bytes words.now) ≡ None)
+            (λ command. command_of (map string_bytes words.now) ≡ Some (spelled command)) }
     {
         if words.len() == 5 {
             return Command::of_service(&words[0], &words[1], &words[2], &words[3], &words[4]);
+        }
+        if words.len() == 2 {
+            return Command::of_rehearsal(&words[0], &words[1]);
         }
         if words.len() != 4 {
             return None;
         }
         Command::of_form(&words[0], &words[1], &words[2], &words[3])
+    }
+
+    // The command of two words.
+    fn of_rehearsal(form: &'a str, number: &'a str) -> Option<Command<'a>>
+        ensures { MatchOption result
+            (command_of (form.now ∷ number.now ∷ []) ≡ None)
+            (λ command. command_of (form.now ∷ number.now ∷ []) ≡ Some (spelled command)) }
+    {
+        match form {
+            "rehearse" => match number_up_to(u32::MAX, number) {
+                Some(n) => Some(Command::Rehearse(n)),
+                None => None,
+            },
+            _ => None,
+        }
     }
 
     // The command of four words.
@@ -76,8 +97,8 @@ impl<'a> Command<'a> {
         path: &'a str,
     ) -> Option<Command<'a>>
         ensures { MatchOption result
-            (built_command (form.now ∷ root.now ∷ settings.now ∷ path.now ∷ []) ≡ None)
-            (λ command. built_command (form.now ∷ root.now ∷ settings.now ∷ path.now ∷ []) ≡ Some (spelled command)) }
+            (command_of (form.now ∷ root.now ∷ settings.now ∷ path.now ∷ []) ≡ None)
+            (λ command. command_of (form.now ∷ root.now ∷ settings.now ∷ path.now ∷ []) ≡ Some (spelled command)) }
     {
         if root.is_empty() || settings.is_empty() || path.is_empty() {
             return None;
@@ -105,8 +126,8 @@ impl<'a> Command<'a> {
         count: &'a str,
     ) -> Option<Command<'a>>
         ensures { MatchOption result
-            (built_command (form.now ∷ root.now ∷ settings.now ∷ addr.now ∷ count.now ∷ []) ≡ None)
-            (λ command. built_command (form.now ∷ root.now ∷ settings.now ∷ addr.now ∷ count.now ∷ []) ≡ Some (spelled command)) }
+            (command_of (form.now ∷ root.now ∷ settings.now ∷ addr.now ∷ count.now ∷ []) ≡ None)
+            (λ command. command_of (form.now ∷ root.now ∷ settings.now ∷ addr.now ∷ count.now ∷ []) ≡ Some (spelled command)) }
     {
         if root.is_empty() || settings.is_empty() || addr.is_empty() {
             return None;

@@ -65,3 +65,14 @@ returns-clause-turns g c =
       logged = s.1;
       told = c.tell.ensures.line;
     })
+
+pub returns-clause-rehearse : goal.returns-clause-rehearse
+returns-clause-rehearse g c = λ n is. let r = c.run_command-end.ensures.rehearsed n is in record {
+  outcome = _;
+  status_is = c.status-status.ensures;
+  rehearsed = r.0;
+  told = c.tell.ensures.line;
+}
+
+pub returns-clause-rehearsed_unread : goal.returns-clause-rehearsed_unread
+returns-clause-rehearsed_unread g c = λ n is. (c.run_command-end.ensures.rehearsed n is).1
