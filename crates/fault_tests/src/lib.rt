@@ -1,0 +1,7 @@
+//! Tests of faults and limits: damaged films, calls of the store that fail, and a film of very many samples.
+#![tactic(auto)]
+
+#[cfg(test)]
+mod damages;
+#[cfg(test)]
+mod long_films;
