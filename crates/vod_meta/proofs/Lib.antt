@@ -4,3 +4,4 @@ pub mod IndexLemmas
 pub mod LoadLemmas
 pub mod HeldLemmas
 pub mod TurnLemmas
+pub mod RefusalLemmas

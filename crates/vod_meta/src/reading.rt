@@ -7,6 +7,7 @@ ghost use Rattle.vod_source.specs.Calls.{Came};
 ghost use Rattle.vod_source.specs.Causes.{Rose};
 ghost use Rattle.origin_model.specs.Loaded.{loaded};
 ghost use Rattle.origin_model.specs.Reads.{file_turn_reads};
+ghost use Rattle.answer_laws.specs.Refusals.{IsPathRefusal};
 ghost use Rattle.vod_meta.specs.Read.{fetched, movie_due, refusal_in, HasPlaceInFile, LiesInFile};
 
 use crate::indexes::indexes;
@@ -33,6 +34,7 @@ pub(crate) fn load<S: Store>(alloc: Global, files: &mut S, name: &str) -> Result
     ensures content { S.content files.new ≡ S.content files.old }
     ensures later { S.faults files.old ≤ S.faults files.new }
     ensures store_failed { IsErrOf result StoreFailed → Rose (S.faults files.old) (S.faults files.new) }
+    ensures refused { IfErr result IsPathRefusal }
 {
     match fetch(alloc, files, name) {
         Ok(found) => meta_of(alloc, name, found),
@@ -49,6 +51,7 @@ fn fetch<S: Store>(alloc: Global, files: &mut S, name: &str) -> Result<MovieByte
     ensures content { S.content files.new ≡ S.content files.old }
     ensures later { S.faults files.old ≤ S.faults files.new }
     ensures store_failed { IsErrOf result StoreFailed → Rose (S.faults files.old) (S.faults files.new) }
+    ensures refused { IfErr result IsPathRefusal }
 {
     let place = match find(alloc, files, name) {
         Ok(place) => place,

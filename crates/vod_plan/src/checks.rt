@@ -42,6 +42,7 @@ pub(crate) fn checked_plan<L: Ledger>(
     ensures pieces { IfOk result (λ plan. plan.pieces ≡ map piece_view pieces.items) }
     ensures largest { IfOk result (λ plan. plan.largest ≡ largest_of ((plan_rows plan).video ++ (plan_rows plan).audio)) }
     ensures bytes { IfOk result (λ plan. plan.bytes ≡ sizes (plan_rows plan).video + sizes (plan_rows plan).audio) }
+    ensures small { IfOk result (λ plan. plan.bytes ≤ 2130706432) }
     ensures video_ends { IfOk result (λ plan. All EndsLow (plan_rows plan).video) }
     ensures audio_ends { IfOk result (λ plan. All EndsLow (plan_rows plan).audio) }
     ensures number { IfOk result (λ plan. plan.number ≡ number) }

@@ -16,6 +16,7 @@ ghost use Rattle.vod_plan.specs.RowFaults.{AreTyped};
 ghost use Rattle.vod_plan.specs.Selected.{rows_planned, ArePiecesOf, AreSamePieces};
 ghost use Rattle.vod_plan.specs.Spans.{piece_view};
 ghost use Rattle.vod_plan.specs.Wanted.{IsNthSync};
+ghost use Rattle.vod_plan.specs.Writable.{IsCounted};
 
 use crate::cell::{cut_by_number, other_kind};
 use crate::checks::{check_pieces, checked_plan};
@@ -45,6 +46,7 @@ pub(crate) fn iframe_plan<L: Ledger>(
     ensures looks { steps.new ≤ steps.old + 1152 * length pieces.items + 8 + 8 * samples_through (rows_planned (lead_of_asked asked) (map piece_view pieces.items)) }
     ensures number { IfOk result (λ plan. plan.number ≡ number) }
     ensures form { IfOk result (λ plan. plan.form ≡ Ts) }
+    ensures counted { IfOk result IsCounted }
     ensures no_store { IfErr result (λ refusal. refusal ≢ StoreFailed) }
 {
     match check_pieces(alloc, number, Form::Ts, asked, &pieces) {

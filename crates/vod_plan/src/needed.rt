@@ -12,6 +12,7 @@ ghost use Rattle.segment_model.specs.Grid.{may_begin};
 ghost use Rattle.vod_source.specs.Calls.{AnswersUnlessFailed};
 ghost use Rattle.vod_source.specs.Causes.{Rose};
 ghost use Rattle.origin_model.specs.Loaded.{loaded as loaded_of};
+ghost use Rattle.answer_laws.specs.Refusals.{IsPathRefusal};
 ghost use Rattle.seq_cells.specs.Cells.{part_grid_of, stops};
 ghost use Rattle.vod_meta.specs.Held.{names_held, AreTrue, HeldMovie};
 ghost use Rattle.vod_plan.specs.Looks.{tracks_asked};
@@ -70,6 +71,7 @@ pub(crate) fn needed_of<S: Store, L: Ledger>(
     ensures content { S.content store.new ≡ S.content store.old }
     ensures later { S.faults store.old ≤ S.faults store.new }
     ensures store_failed { IsErrOf result StoreFailed → Rose (S.faults store.old) (S.faults store.new) }
+    ensures refused { IfErr result IsPathRefusal }
 {
     let leads = lead_of(asked);
     let mut found = Vec::new(alloc);
@@ -122,6 +124,7 @@ fn look<S: Store, L: Ledger>(
     ensures content { S.content store.new ≡ S.content store.old }
     ensures later { S.faults store.old ≤ S.faults store.new }
     ensures store_failed { IsErrOf result StoreFailed → Rose (S.faults store.old) (S.faults store.new) }
+    ensures refused { IfErr result IsPathRefusal }
 {
     let meta = match loaded(alloc, metas, store, piece) {
         Ok(meta) => meta,
@@ -150,6 +153,7 @@ fn loaded<S: Store>(
     ensures content { S.content store.new ≡ S.content store.old }
     ensures later { S.faults store.old ≤ S.faults store.new }
     ensures store_failed { IsErrOf result StoreFailed → Rose (S.faults store.old) (S.faults store.new) }
+    ensures refused { IfErr result IsPathRefusal }
 {
     metas.load(alloc, store, piece.name.as_str())
 }

@@ -4,6 +4,7 @@ use Rattle.std.specs.Prelude.{Option, IfSome}
 use Rattle.mp4_model.specs.Movie.{moov_bytes}
 use Rattle.vod_source.specs.Stored.{Files, bytes_of}
 use Rattle.vod_meta.proofs.LoadLemmas.{told-not_found, told-not_read, told-was_read}
+use Rattle.vod_meta.proofs.RefusalLemmas.{place_may, read_may}
 use Rattle.vod_meta.proofs.reading.fetch.Goals as goal
 
 pub returns-in-Err-clause-told : goal.returns-in-Err-clause-told
@@ -18,3 +19,9 @@ returns-in-Ok-read-clause-told g c =
 pub returns-in-Err-read-clause-told : goal.returns-in-Err-read-clause-told
 returns-in-Err-read-clause-told g c =
     told-not_read c.args.name.now (g.S.Store.content c.args.files.now) c.in-Ok.place c.in-Err-read.refusal _ _ _ c.in-Ok.ensures.told c.in-Ok.ensures.log c.in-Err-read.ensures.log c.in-Err-read.ensures.refused
+
+pub returns-in-Err-clause-refused : goal.returns-in-Err-clause-refused
+returns-in-Err-clause-refused g c = place_may c.args.name.now c.in-Err.refusal c.in-Err.ensures.refused
+
+pub returns-in-Err-read-clause-refused : goal.returns-in-Err-read-clause-refused
+returns-in-Err-read-clause-refused g c = read_may c.in-Err-read.refusal c.in-Err-read.ensures.refused

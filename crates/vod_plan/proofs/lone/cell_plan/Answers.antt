@@ -15,6 +15,7 @@ use Rattle.vod_plan.specs.Wanted.{wanted_rows}
 use Rattle.vod_plan.proofs.CellPlans.{empty_cell, full_cell, full_looks, written_back}
 use Rattle.vod_plan.proofs.FoundLemmas.{same_count}
 use Rattle.vod_plan.proofs.PieceLemmas.{same_typed}
+use Rattle.vod_plan.proofs.WritableCalls.{cell_refused, cell_writable}
 use Rattle.vod_plan.proofs.lone.cell_plan.Goals as goal
 
 pub returns-then-not-has_rows-clause-answers : goal.returns-then-not-has_rows-clause-answers
@@ -57,3 +58,11 @@ returns-clause-looks g c = λ cs sound are.
     full_looks c.args.number c.args.wanted c.args.asked cs grid c.args.k kind c.args.needed.pieces.items c.cut_to_cell.new.pieces c.args.steps.now c.cut_to_cell.new.steps c.wanted_plan.new.steps c.lead_of-leads.ensures cut same some sound are
     cut_looks
     (subst (λ (qs : List PlanPiece). c.wanted_plan.new.steps ≤ c.cut_to_cell.new.steps + 1152 * length qs + 8 + 8 * samples_through (rows_planned (lead_of c.args.asked) (map piece_view qs))) back c.wanted_plan.ensures.looks)
+
+pub returns-clause-writable : goal.returns-clause-writable
+returns-clause-writable g c =
+    cell_writable c.args.number c.args.wanted c.args.asked (part_grid_of c.args.cells) c.args.k c.args.needed.pieces.items c.requires.of c.wanted_plan.result (returns-clause-answers g c) c.wanted_plan.ensures.counted
+
+pub returns-clause-refused : goal.returns-clause-refused
+returns-clause-refused g c =
+    cell_refused c.args.number c.args.wanted c.args.asked (part_grid_of c.args.cells) c.args.k c.args.needed.pieces.items c.requires.of c.wanted_plan.result (returns-clause-answers g c)

@@ -2,11 +2,13 @@
 use Rattle.std.proofs.Common.{length, ap, ◌∙◌, arith, rules, FitsSigned, w64}
 use Rattle.std.proofs.lemmas.Int.{to_z-of_z}
 use Rattle.vod_types.specs.declared.tracks.Kind.TheVariants.{Video, Audio}
-use Rattle.vod_source.proofs.CallLemmas.{told_with_both}
+use Rattle.vod_source.proofs.CallLemmas.{told_with_all, told_with_both}
+use Rattle.vod_plan.specs.Wanted.{form_of}
 use Rattle.segment_model.specs.Grid.{cells, milliseconds}
 use Rattle.origin_model.proofs.SoundPieces.{all_sound}
 use Rattle.vod_plan.proofs.CellPlans.{end_steps, found_few, kept_rows, open_end, typed_found}
 use Rattle.vod_plan.proofs.SegmentLemmas.{open_found, open_refused, open_unplaced}
+use Rattle.vod_plan.proofs.WritableCalls.{found_of_part, sizes_looked, stored_writable}
 use Rattle.vod_plan.proofs.lone.open_segment.Goals as goal
 
 pub returns-in-Err-clause-done : goal.returns-in-Err-clause-done
@@ -59,3 +61,14 @@ returns-in-Err-place_among-clause-done g c =
     c.in-Err-place_among.refusal c.args.steps.now c.needed_of.new.steps c.end_of-end.new.steps c.in-Err-place_among.ensures.place most
     (end_steps c.args.asked looks.answered.0 c.in-Ok.needed.pieces.items c.deref.result.now c.lead_of.result c.needed_of.new.steps c.end_of-end.new.steps (all_sound known c.args.cut.edits c.args.asked _ looks.answered.0 looks.answered.1) looks.answered.2
     c.lead_of.ensures c.deref.ensures.value c.end_of-end.ensures.looks c.end_of-end.ensures.none))
+
+pub cell_plan-requires-clause-of : goal.cell_plan-requires-clause-of
+cell_plan-requires-clause-of g c =
+    found_of_part c.args.asked c.args.cut.timeline.now c.part_at.result.0 c.part_at.result.1.now 0 c.in-Ok.needed.pieces.items c.part_at.ensures.kept c.part_at.ensures.pieces c.in-Ok.ensures.found
+
+pub returns-in-Ok-place_among-clause-writable : goal.returns-in-Ok-place_among-clause-writable
+returns-in-Ok-place_among-clause-writable g c =
+    let ps = c.in-Ok.needed.pieces.items in
+    stored_writable (form_of c.args.wanted) c.args.asked ps (g.S.Store.content c.needed_of.new.store) (g.S.Store.content c.args.store.now) c.cell_plan.result c.cell_plan.ensures.writable c.in-Ok.ensures.content
+    (told_with_all (g.S.Store.content c.args.store.now) _ _ c.in-Ok.ensures.told
+    (λ known looks. sizes_looked known c.args.cut.edits c.args.asked _ ps looks.answered))

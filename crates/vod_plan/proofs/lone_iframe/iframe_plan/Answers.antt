@@ -13,6 +13,7 @@ use Rattle.vod_plan.proofs.CellPlans.{written_back}
 use Rattle.vod_plan.proofs.FoundLemmas.{same_count}
 use Rattle.vod_plan.proofs.LoneIframes.{alone_found, alone_refused, alone_unfound, sound_pieces}
 use Rattle.vod_plan.proofs.PieceLemmas.{same_typed}
+use Rattle.vod_plan.proofs.WritableCalls.{counted_of}
 use Rattle.vod_plan.proofs.lone_iframe.iframe_plan.Goals as goal
 
 pub returns-in-Err-clause-answers : goal.returns-in-Err-clause-answers
@@ -40,3 +41,7 @@ pub returns-in-Err-cut_to_sync-clause-answers : goal.returns-in-Err-cut_to_sync-
 returns-in-Err-cut_to_sync-clause-answers g c = λ cs are other.
     alone_unfound c.args.number c.args.index c.args.asked cs c.args.pieces.items are c.deref.result.now _ c.lead_of-leads.result c.in-Ok.field-0 c.deref.ensures.value c.deref_mut.ensures.value c.lead_of-leads.ensures (c.in-Ok.ensures.answers cs)
     c.in-Err-cut_to_sync.refusal c.in-Err-cut_to_sync.ensures.none.0 c.in-Err-cut_to_sync.ensures.none.1
+
+pub returns-in-Ok-cut_to_sync-clause-counted : goal.returns-in-Ok-cut_to_sync-clause-counted
+returns-in-Ok-cut_to_sync-clause-counted g c =
+    counted_of c.checked_plan.result c.checked_plan.ensures.largest c.checked_plan.ensures.bytes c.checked_plan.ensures.small c.checked_plan.ensures.video_ends c.checked_plan.ensures.audio_ends

@@ -5,6 +5,7 @@ use Rattle.vod_source.proofs.CallLemmas.{told_with_both}
 use Rattle.vod_plan.specs.Tracks.{checked_view}
 use Rattle.vod_plan.proofs.FoundLemmas.{found_piece, tracks_same}
 use Rattle.vod_plan.proofs.LookWalks.{look_found, look_unchecked, look_unloaded, view_sound}
+use Rattle.vod_plan.proofs.WritableCalls.{check_refused}
 use Rattle.vod_plan.proofs.needed.look.Goals as goal
 
 pub returns-in-Err-clause-told : goal.returns-in-Err-clause-told
@@ -38,3 +39,6 @@ returns-in-Err-check-clause-told g c =
     told_with_both (g.S.Store.content c.args.store.now) _ _ _ c.in-Ok.ensures.answers c.in-Ok.ensures.turned
     (λ known load turned. look_unchecked known c.args.edits c.args.asked c.args.piece.now c.args.metas.now c.loaded.new.metas _ _ c.in-Ok.meta (rc_value c.in-Ok.meta).movie load turned
     c.in-Err-check.refusal c.in-Err-check.ensures.answers)
+
+pub returns-in-Err-check-clause-refused : goal.returns-in-Err-check-clause-refused
+returns-in-Err-check-clause-refused g c = check_refused c.args.edits c.args.asked c.args.piece.now (rc_value c.in-Ok.meta).movie c.in-Err-check.refusal c.in-Err-check.ensures.answers
