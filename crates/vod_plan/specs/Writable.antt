@@ -34,7 +34,7 @@ pub record IsCounted (p : Planned) : Type 0 where
 
 -- each is of a file that is as long as its metadata say
 abbrev pub SizesAreTrue : Files → List PlanPiece → Type 0
-SizesAreTrue files pieces = AllByRecursion (λ p. length (bytes_of files (rc_value p.meta).name) ≡ (rc_value p.meta).movie.place.file_size) pieces
+SizesAreTrue files pieces = AllByRecursion (λ (p : PlanPiece). length (bytes_of files (rc_value p.meta).name) ≡ (rc_value p.meta).movie.place.file_size) pieces
 
 -- They are those of some of the pieces of a part of a timeline, from one on.
 pub record AreOfPart (asked : Asked) (found : List PlanPiece) : Type 0 where
