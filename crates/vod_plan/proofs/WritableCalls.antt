@@ -1,7 +1,6 @@
 -- Plans over the pieces that they need can be written.
 use Rattle.std.proofs.Common.{◌≡◌, ◌≢◌, ℕ, ◌+◌, ◌≤◌, Bool, List, [], ◌∷◌, ◌++◌, length, map, drop, All, Option, Some, None, IfSome, IfOk, IfErr, Result, Ok, Err, sym, ap, ◌∙◌, subst}
 use Rattle.std.specs.Prelude.{ok_or, unwrap_or}
-use Rattle.std.specs.Rc.{rc_value}
 use Rattle.std.specs.Result.{result_map_both}
 use Rattle.vod_types.specs.declared.refusal.Refusal.{Refusal}
 use Rattle.vod_types.specs.declared.refusal.Refusal.TheVariants.{NoFile, NoMemory}
