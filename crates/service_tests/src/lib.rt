@@ -10,3 +10,5 @@ mod ends;
 mod packs;
 #[cfg(test)]
 mod rehearsals;
+#[cfg(test)]
+mod turns;
