@@ -1,9 +1,10 @@
 #!/usr/bin/env python3
 """Compares answers of vodpack on random films and mappings to a model that is written from the same rules, in tests/model.py.
 
-usage: tests/random_requests.py [PROGRAM [SEED [ROUNDS]]]
+usage: tests/random_requests.py [--served] [PROGRAM [SEED [ROUNDS]]]
 
-PROGRAM is the built vodpack, by default crates/vodpack/out/vodpack. In each round some small films with tables of all forms,
+PROGRAM is the built vodpack, by default crates/vodpack/out/vodpack. Each answer is asked for by `get`, or with --served on one
+connection a round, so that `serve` keeps the metadata of films over its requests. In each round some small films with tables of all forms,
 edit lists, AVC and HEVC, a mapping and settings are drawn, and then many paths of initialization segments, fragments, transport
 streams, I-frames and lists of all kinds are asked for. Each answer is compared byte for byte, and each refusal by its number. The
 status is 0 where all were equal; else the first case that differs is kept in a folder that is named.
@@ -19,6 +20,9 @@ import tempfile
 
 from boxes import box, full, u32
 from model import SETS, UNITS, Refused, answer
+
+sys.path.append(os.path.join(os.path.dirname(os.path.abspath(__file__)), "serve"))
+from peer import Asker, Served
 
 # Films
 
@@ -346,7 +350,39 @@ def draw_ask(draw, is_mapped, names):
     return "/".join(["", place, proto, target, *words, leaf]), mapping, ask
 
 
-def run_round(program, draw, folder, counts):
+class ByGet:
+    """Asks the command `get`, once a path."""
+
+    def __init__(self, program, folder):
+        self.program, self.folder = program, folder
+
+    def ask(self, path):
+        ran = subprocess.run([self.program, "get", ".", "s.json", path], cwd=self.folder, capture_output=True)
+        return ran.returncode, ran.stdout, ran.stderr
+
+    def end(self):
+        pass
+
+
+class ByServe:
+    """Asks `serve` on a connection, and tells its replies as `get` would."""
+
+    def __init__(self, program, folder):
+        self.served = Served(program, folder, 1000, f"{folder}/s.json")
+        self.asker = Asker(self.served)
+
+    def ask(self, path):
+        status, fields, body, whole = self.asker.ask(path)
+        if status != 200:
+            return 2, b"", body
+        return (0, body, b"") if whole else (2, body, b"refused 28 BadNal\n")
+
+    def end(self):
+        self.asker.close()
+        self.served.stop()
+
+
+def run_round(ways, draw, folder, counts):
     names = [f"f{i}.mp4" for i in range(3)]
     films = {}
     for name in names:
@@ -363,6 +399,14 @@ def run_round(program, draw, folder, counts):
     for name, value in (("s.json", settings), ("m.json", mapped)):
         with open(f"{folder}/{name}", "w") as file:
             json.dump(value, file, ensure_ascii=draw.random() < 0.5)
+    way = ways(folder)
+    try:
+        return ask_all(way, draw, folder, counts, films, mapped, settings, names)
+    finally:
+        way.end()
+
+
+def ask_all(way, draw, folder, counts, films, mapped, settings, names):
     for _ in range(60):
         # most of the requests that come to nothing are drawn anew
         for _ in range(draw.choice([1, 8])):
@@ -373,13 +417,13 @@ def run_round(program, draw, folder, counts):
                 break
             except Refused as refusal:
                 want = (2, b"", b"refused %d " % refusal.args[0])
-        ran = subprocess.run([program, "get", ".", "s.json", path], cwd=folder, capture_output=True)
-        line = ran.stderr if want[0] == 0 else ran.stderr[: len(want[2])]
+        status, got, told = way.ask(path)
+        line = told if want[0] == 0 else told[: len(want[2])]
         word = f"refused {refusal_of(want[2])}" if want[0] else path.split("/")[-1].split("-")[0] + path[path.rindex(".") :]
         counts[word] = counts.get(word, 0) + 1
-        if (ran.returncode, ran.stdout, line) != want:
+        if (status, got, line) != want:
             print(f"differs: get . s.json {path}")
-            print(f"want {want[0]} {len(want[1])} bytes {want[2]}, have {ran.returncode} {len(ran.stdout)} bytes {ran.stderr}")
+            print(f"want {want[0]} {len(want[1])} bytes {want[2]}, have {status} {len(got)} bytes {told}")
             with open(f"{folder}/want", "wb") as file:
                 file.write(want[1])
             return False
@@ -392,7 +436,8 @@ def refusal_of(line):
 
 def main():
     here = os.path.dirname(os.path.abspath(__file__))
-    words = sys.argv[1:]
+    words = [it for it in sys.argv[1:] if it != "--served"]
+    kind = ByServe if "--served" in sys.argv else ByGet
     program = os.path.abspath(words[0] if words else f"{here}/../crates/vodpack/out/vodpack")
     if not os.access(program, os.X_OK):
         print(f"there is no program {program}: build it with rt run in crates/vodpack, or name it")
@@ -403,7 +448,7 @@ def main():
     for i in range(rounds):
         folder = tempfile.mkdtemp()
         try:
-            passed = run_round(program, random.Random(f"{seed} {i}"), folder, counts)
+            passed = run_round(lambda at: kind(program, at), random.Random(f"{seed} {i}"), folder, counts)
         except BaseException:
             shutil.rmtree(folder, ignore_errors=True)
             raise

@@ -84,6 +84,50 @@ def drain(link):
         got += piece
 
 
+class Asker:
+    """Asks a served origin one request after another on a connection, and on a new one where it was closed."""
+
+    def __init__(self, served):
+        self.served, self.link, self.file = served, None, None
+
+    def ask(self, path, method="GET"):
+        """The status of the reply, its fields, its body, and whether that is whole."""
+        if self.link is None:
+            self.link = self.served.connect()
+            self.file = self.link.makefile("rb")
+        self.link.sendall(f"{method} {path} HTTP/1.1\r\nHost: x\r\n\r\n".encode())
+        status = int(self.file.readline().split()[1])
+        fields = {}
+        while line := self.file.readline().strip():
+            name, value = line.decode("latin-1").split(": ", 1)
+            fields[name.lower()] = value
+        body, whole = (b"", True) if method == "HEAD" else self.body(fields)
+        if not whole or fields.get("connection") == "close":
+            self.close()
+        return status, fields, body, whole
+
+    def body(self, fields):
+        if "content-length" in fields:
+            length = int(fields["content-length"])
+            body = self.file.read(length)
+            return body, len(body) == length
+        body = b""
+        while line := self.file.readline().strip():
+            size = int(line, 16)
+            body += self.file.read(size)
+            if len(self.file.read(2)) < 2:
+                return body, False
+            if size == 0:
+                return body, True
+        return body, False
+
+    def close(self):
+        if self.link is not None:
+            self.file.close()
+            self.link.close()
+            self.link = None
+
+
 def get(program, root, path, settings="-"):
     """Status, body and line of `vodpack get`."""
     done = subprocess.run([program, "get", root, settings, path], capture_output=True)
