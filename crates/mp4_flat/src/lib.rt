@@ -20,6 +20,8 @@ mod sequence;
 pub use entries::PackEnd;
 pub use flat_segments::FlatBody;
 pub use listing::listed;
+pub use lists::iframe_playlist_of;
 pub use packs::pack;
+pub use playlist::playlist_of;
 pub use requests::{answer, answer_ask, built_ask};
 pub use vod_types::Listed;

@@ -153,8 +153,8 @@ fn sequence_iframes<S: Store>(
     iframe_rows(alloc, files, cut.cut(), video)
 }
 
-// The playlist of these I-frames. The only refusal is `NoMemory`.
-fn iframe_playlist_of(
+/// The playlist of these I-frames of a video track. The only refusal is `NoMemory`.
+pub fn iframe_playlist_of(
     alloc: Global,
     rows: &[IframeRow],
     sequence: u32,

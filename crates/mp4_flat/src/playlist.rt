@@ -11,7 +11,7 @@ use std::alloc::Global;
 use vod_types::{Asked, Listed, Refusal, SegmentRow};
 
 /// The playlist of these listed segments of a sequence, as fragmented MP4 where `fmp4` is true. The only refusal is `NoMemory`.
-pub(crate) fn playlist_of(
+pub fn playlist_of(
     alloc: Global,
     listed: &[Listed],
     sequence: u32,
