@@ -20,32 +20,37 @@ pub end-cut : (end : End) → end_of (cut_of end) ≡ end
 end-cut whole = refl
 end-cut (bad_nal file sample) = refl
 
+-- ---- paths
+
 module _ (o : Setup) (path : List ℕ) (range : Option ByteRange) where
   pub answer-refused : (e : Refusal) → readable built_paths path ≡ Err e → answer built_paths o path range ≡ Err e
   unfolding answer
   answer-refused e read = ap (λ (r : Result Ask Refusal). r >>= ask_answer o range) read
 
-  module _ (ask : Ask) (read : readable built_paths path ≡ Ok ask) (built : is_built_leaf ask.leaf ≡ true) where
-    answer-read : answer built_paths o path range ≡ ask_answer o None ask
-    unfolding answer
-    answer-read = ap (λ (r : Result Ask Refusal). r >>= ask_answer o range) read ∙ ask_unranged o range ask built
+  -- it is that of what it asks for
+  pub answer-read : (ask : Ask) → readable built_paths path ≡ Ok ask → is_built_leaf ask.leaf ≡ true → answer built_paths o path range ≡ ask_answer o None ask
+  unfolding answer
+  answer-read ask read built = ap (λ (r : Result Ask Refusal). r >>= ask_answer o range) read ∙ ask_unranged o range ask built
 
-    -- it is the body that was made
-    pub answer-body : (body : FlatBody) → flat_seen (ask_answer o None ask) ≡ Ok (flat_shown body) → answer built_paths o path range ≡ Ok (leaf_body ask.leaf body.bytes.items (end_of body.cut))
-    answer-body body seen = answer-read ∙ by_answer (ask_answer o None ask) (ask_answered o ask) seen
-      where
-        by_answer : (a : Answer) → IsLeafAnswer ask.leaf a → flat_seen a ≡ Ok (flat_shown body) → a ≡ Ok (leaf_body ask.leaf body.bytes.items (end_of body.cut))
-        by_answer (Err e) law seen = absurd cc
-        by_answer (Ok b) law seen =
-            let shown : (b.bytes, cut_of b.end) ≡ (body.bytes.items, body.cut) = cc in
-            let bytes : b.bytes ≡ body.bytes.items = ap (λ (p : List ℕ × Option (ℕ × ℕ)). p.0) shown in
-            let end : b.end ≡ end_of body.cut = sym (end-cut b.end) ∙ ap (λ (p : List ℕ × Option (ℕ × ℕ)). end_of p.1) shown in
-            ap Ok (law.is ∙ ap₂ (leaf_body ask.leaf) bytes end)
+-- ---- requests
 
-    -- it is refused as the call was
-    pub answer-err : (e : Refusal) → flat_seen (ask_answer o None ask) ≡ Err e → answer built_paths o path range ≡ Err e
-    answer-err e seen = answer-read ∙ by_answer (ask_answer o None ask) seen
-      where
-        by_answer : (a : Answer) → flat_seen a ≡ Err e → a ≡ Err e
-        by_answer (Err d) seen = cc
-        by_answer (Ok b) seen = absurd cc
+module _ (o : Setup) (ask : Ask) where
+  -- it is the body that was made
+  pub answer-body : (body : FlatBody) → flat_seen (ask_answer o None ask) ≡ Ok (flat_shown body) → ask_answer o None ask ≡ Ok (leaf_body ask.leaf body.bytes.items (end_of body.cut))
+  answer-body body seen = by_answer (ask_answer o None ask) (ask_answered o ask) seen
+    where
+      by_answer : (a : Answer) → IsLeafAnswer ask.leaf a → flat_seen a ≡ Ok (flat_shown body) → a ≡ Ok (leaf_body ask.leaf body.bytes.items (end_of body.cut))
+      by_answer (Err e) law seen = absurd cc
+      by_answer (Ok b) law seen =
+          let shown : (b.bytes, cut_of b.end) ≡ (body.bytes.items, body.cut) = cc in
+          let bytes : b.bytes ≡ body.bytes.items = ap (λ (p : List ℕ × Option (ℕ × ℕ)). p.0) shown in
+          let end : b.end ≡ end_of body.cut = sym (end-cut b.end) ∙ ap (λ (p : List ℕ × Option (ℕ × ℕ)). end_of p.1) shown in
+          ap Ok (law.is ∙ ap₂ (leaf_body ask.leaf) bytes end)
+
+  -- it is refused as the call was
+  pub answer-err : (e : Refusal) → flat_seen (ask_answer o None ask) ≡ Err e → ask_answer o None ask ≡ Err e
+  answer-err e seen = by_answer (ask_answer o None ask) seen
+    where
+      by_answer : (a : Answer) → flat_seen a ≡ Err e → a ≡ Err e
+      by_answer (Err d) seen = cc
+      by_answer (Ok b) seen = absurd cc

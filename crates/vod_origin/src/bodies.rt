@@ -1,18 +1,46 @@
-//! Bodies that are begun.
+//! Bodies that are made whole.
 
-ghost use Rattle.std.specs.Prelude.{◌≡◌, true};
-ghost use Rattle.list_model.specs.Reply.{leaf_media, mp4_media, told_length};
+ghost use Rattle.std.specs.Prelude.{◌≡◌, ◌≢◌, ◌≤◌, true, IsTrue, Option};
+ghost use Rattle.vod_source.specs.Causes.{Rose};
+ghost use Rattle.vod_source.specs.Stored.{Files};
+ghost use Rattle.list_model.specs.Reply.{leaf_media, told_length};
+ghost use Rattle.mp4_flat.specs.Built.{IsBuiltAsk};
 ghost use Rattle.mp4_flat.specs.Flat.{is_stream};
 ghost use Rattle.flat_segments.specs.Bodies.{IsInPackets};
-ghost use Rattle.vod_origin.specs.Bodies.{IsBegun};
+ghost use Rattle.vod_origin.specs.Begun.{asked_answer, Begins, IsBegun, Replies};
+ghost use Rattle.vod_origin.specs.Steps.{Steps};
 
-use crate::cursor::Cursor;
-use mp4_flat::FlatBody;
+use crate::cursor::{Cursor, MadeBody};
+use crate::media::media_of;
+use mp4_flat::{FlatBody, answer_ask};
+use std::alloc::Global;
 use vod_http::Reply;
-use vod_types::{Asked, Form, Leaf, Media};
+use vod_source::{Sink, Step, Store};
+use vod_types::{Ask, Form, Leaf, Settings};
 
-/// The reply with the body of a leaf.
-pub(crate) fn begun(leaf: Leaf, body: FlatBody) -> Reply<Cursor>
+/// The reply to a request by the plain way, which makes the whole body.
+pub(crate) fn plain_reply<S: Store>(
+    alloc: Global,
+    store: &mut S,
+    settings: &Settings,
+    root: &str,
+    ask: Ask,
+) -> Reply<Cursor>
+    requires { IsBuiltAsk ask }
+    ensures replies { Replies (asked_answer settings.now root.now ask (S.content store.old)) (S.faults store.old) (S.faults store.new) result }
+    ensures begins { Begins (asked_answer settings.now root.now ask (S.content store.old)) (S.content store.old) result }
+    ensures content { S.content store.new ≡ S.content store.old }
+    ensures later { S.faults store.old ≤ S.faults store.new }
+{
+    let leaf = ask.leaf;
+    match answer_ask(alloc, store, settings, root, ask) {
+        Ok(body) => begun(leaf, body),
+        Err(refusal) => Reply::Refused(refusal),
+    }
+}
+
+// The reply with the body of a leaf.
+fn begun(leaf: Leaf, body: FlatBody) -> Reply<Cursor>
     requires { is_stream leaf ≡ true → IsInPackets body }
     ensures { IsBegun leaf body result }
 {
@@ -26,11 +54,11 @@ pub(crate) fn begun(leaf: Leaf, body: FlatBody) -> Reply<Cursor>
         kind: media_of(leaf),
         length,
         part: None,
-        cursor: Cursor {
+        cursor: Cursor::Made(MadeBody {
             body,
             in_packets,
             waits: true,
-        },
+        }),
     }
 }
 
@@ -44,28 +72,23 @@ fn is_stream(leaf: Leaf) -> bool
     )
 }
 
-// The media type of a leaf's body.
-fn media_of(leaf: Leaf) -> Media
-    ensures { result ≡ leaf_media leaf }
-{
-    match leaf {
-        Leaf::Master | Leaf::Index { .. } | Leaf::Iframes { .. } => Media::Hls,
-        Leaf::Mpd => Media::Dash,
-        Leaf::Init { asked, .. } | Leaf::Clip { asked, .. } => mp4_media(asked),
-        Leaf::Segment { asked, form, .. } => match form {
-            Form::Ts => Media::Ts,
-            Form::Fmp4 => mp4_media(asked),
-        },
-        Leaf::Iframe { .. } => Media::Ts,
-    }
-}
-
-// MP4 is audio where no video is asked.
-fn mp4_media(asked: Asked) -> Media
-    ensures { result ≡ mp4_media asked }
-{
-    match asked.video {
-        Some(_) => Media::VideoMp4,
-        None => Media::AudioMp4,
+impl MadeBody {
+    /// Writes all of it.
+    pub(crate) fn next<K: Sink>(&mut self, sink: &mut K) -> Step
+        requires { IsTrue self.old.waits }
+        ensures steps { (content : Option Files) → Steps content (Cursor.Made self.old) (Cursor.Made self.new) (K.written sink.old) (K.written sink.new) result }
+        ensures kept { K.kept sink.new ≡ K.kept sink.old }
+        ensures later { K.faults sink.old ≤ K.faults sink.new }
+        ensures store { result ≢ Step.StoreFailed }
+        ensures failed { result ≡ Step.SinkFailed → Rose (K.faults sink.old) (K.faults sink.new) }
+    {
+        self.waits = false;
+        if sink.put(&self.body.bytes).is_err() {
+            return Step::SinkFailed;
+        }
+        match self.body.cut {
+            Some((file, sample)) => Step::BadNal { file, sample },
+            None => Step::Whole,
+        }
     }
 }

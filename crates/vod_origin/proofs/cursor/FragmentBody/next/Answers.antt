@@ -1,0 +1,8 @@
+-- The step of the writer is the step of the body.
+use Rattle.vod_origin.proofs.FragmentLemmas.{fragment_steps}
+use Rattle.vod_origin.proofs.cursor.FragmentBody.next.Goals as goal
+
+pub returns-clause-steps : goal.returns-clause-steps
+returns-clause-steps g c =
+    fragment_steps c.args.self.now (record { plan = c.next.new.rows; writing = c.next.new.self }) c.requires.under_way c.requires.of.left c.next.ensures.rows c.next.ensures.places
+    (g.S.Store.content c.args.store.now) _ _ c.next.result c.requires.of.writable c.next.ensures.left c.next.ensures.answer c.next.ensures.progress c.next.ensures.written

@@ -1,0 +1,88 @@
+//! What a request is replied.
+
+ghost use Rattle.std.specs.Prelude.{◌≡◌, ◌≤◌, false};
+ghost use Rattle.vod_origin.specs.Begun.{asked_answer, Begins, IsPlanReply, Replies};
+ghost use Rattle.vod_origin.specs.Held.{AreHeld};
+ghost use Rattle.vod_origin.specs.Wanted.{asked_of, form_of, leaf_of, number_of};
+ghost use Rattle.mp4_flat.specs.Built.{IsBuiltAsk};
+
+use crate::bodies::plain_reply;
+use crate::cursor::Cursor;
+use crate::fragments::fragment_reply;
+use crate::plans::{plan, sequence_cut};
+use crate::streams::stream_reply;
+use crate::wanted::{Wanted, wanted_of};
+use std::alloc::Global;
+use vod_http::Reply;
+use vod_meta::Metas;
+use vod_plan::Plan;
+use vod_source::Store;
+use vod_types::{Ask, Form, Settings};
+
+/// The reply to a request: segments and single I-frames by plans over the metadata that are kept, and all else by the plain way.
+pub(crate) fn ask_reply<S: Store>(
+    alloc: Global,
+    metas: &mut Option<Metas>,
+    store: &mut S,
+    settings: &Settings,
+    root: &str,
+    ask: Ask,
+    head_only: bool,
+) -> Reply<Cursor>
+    requires ask { IsBuiltAsk ask }
+    requires held { AreHeld (S.content store.old) metas.old }
+    ensures replies { Replies (asked_answer settings.now root.now ask (S.content store.old)) (S.faults store.old) (S.faults store.new) result }
+    ensures begins { head_only ≡ false → Begins (asked_answer settings.now root.now ask (S.content store.old)) (S.content store.old) result }
+    ensures held { AreHeld (S.content store.new) metas.new }
+    ensures content { S.content store.new ≡ S.content store.old }
+    ensures later { S.faults store.old ≤ S.faults store.new }
+{
+    match wanted_of(ask.leaf) {
+        Some((sequence, wanted)) => planned_reply(
+            alloc, metas, store, settings, root, ask, sequence, wanted, head_only,
+        ),
+        None => plain_reply(alloc, store, settings, root, ask),
+    }
+}
+
+// The reply with what is wanted of a sequence.
+fn planned_reply<S: Store>(
+    alloc: Global,
+    metas: &mut Option<Metas>,
+    store: &mut S,
+    settings: &Settings,
+    root: &str,
+    ask: Ask,
+    sequence: u32,
+    wanted: Wanted,
+    head_only: bool,
+) -> Reply<Cursor>
+    requires ask { IsBuiltAsk ask }
+    requires leaf { ask.leaf ≡ leaf_of sequence wanted }
+    requires held { AreHeld (S.content store.old) metas.old }
+    ensures replies { Replies (asked_answer settings.now root.now ask (S.content store.old)) (S.faults store.old) (S.faults store.new) result }
+    ensures begins { head_only ≡ false → Begins (asked_answer settings.now root.now ask (S.content store.old)) (S.content store.old) result }
+    ensures held { AreHeld (S.content store.new) metas.new }
+    ensures content { S.content store.new ≡ S.content store.old }
+    ensures later { S.faults store.old ≤ S.faults store.new }
+{
+    let cut = match sequence_cut(alloc, store, settings, root, ask, sequence) {
+        Ok(cut) => cut,
+        Err(refusal) => return Reply::Refused(refusal),
+    };
+    match plan(alloc, metas, store, &cut, wanted) {
+        Ok(plan) => plan_reply(alloc, wanted, plan, head_only),
+        Err(refusal) => Reply::Refused(refusal),
+    }
+}
+
+// The reply with the body of a plan.
+fn plan_reply(alloc: Global, wanted: Wanted, plan: Plan, head_only: bool) -> Reply<Cursor>
+    requires { plan.bytes ≤ 2130706432 }
+    ensures { IsPlanReply head_only (number_of wanted) (asked_of wanted) (form_of wanted) plan result }
+{
+    match wanted.form() {
+        Form::Ts => stream_reply(alloc, wanted.asked(), plan, head_only),
+        Form::Fmp4 => fragment_reply(wanted.number(), wanted.asked(), plan),
+    }
+}
