@@ -30,7 +30,7 @@ pub(crate) fn stream_reply(
     if head_only {
         return stream_of(no_body(alloc));
     }
-    // A plan has at most 200,000 rows of each kind.
+    // No plan has so many rows: they are at most 200,000 of each kind.
     if !has_few_rows(&plan) {
         return Reply::Refused(Refusal::NoMemory);
     }
