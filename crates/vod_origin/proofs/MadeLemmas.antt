@@ -45,34 +45,43 @@ stream_unmeasured (leaves.Iframes sequence video) n = refl
 stream_unmeasured (leaves.Iframe number index sequence video) n = refl
 stream_unmeasured (leaves.Clip sequence asked) n = refl
 
-module _ (settings : Settled) (root : List ℕ) (ask : Ask) (content : Option Files) (log log_now : Option (List Read)) where
-  pub made_refused : (before now : ℕ) (e : Refusal) → IsPathRefusal e → (e ≡ StoreFailed → Rose before now)
-      → IfSome content (λ files. IsAskAnswer (setup_of settings root files) ask (Err e) log log_now) → Replies (asked_answer settings root ask content) before now (Refused e)
-  made_refused before now e may rose told =
-      refused settings root ask content before now e may rose
-      (told_with_all content _ _ told (λ files came known_memory known_store. answer-err (setup_of settings root files) ask e (came.answered known_memory known_store)))
-
-  module _ (body : FlatBody) (told : IfSome content (λ files. IsAskAnswer (setup_of settings root files) ask (Ok body) log log_now)) where
-    answered : IfSome content (IsAnswered settings root ask (λ files. body.bytes.items) (λ files. end_of body.cut))
-    answered = told_with_all content _ _ told (λ files came. answer-body (setup_of settings root files) ask body came.answered)
-
-    pub made_replied : (before now : ℕ) (reply : Reply Cursor) → IsBegun ask.leaf body reply → Replies (asked_answer settings root ask content) before now reply
-    made_replied before now (Refused why) begun = absurd begun
-    made_replied before now (Body kind n part cursor) begun =
+module _ (settings : Settled) (root : List ℕ) (ask : Ask) (content : Option Files) where
+  -- with the bytes and the end that the answer has, where that is told
+  module _ (body : FlatBody) (answered : IfSome content (IsAnswered settings root ask (λ files. body.bytes.items) (λ files. end_of body.cut))) where
+    pub answered_replied : (before now : ℕ) (reply : Reply Cursor) → IsBegun ask.leaf body reply → Replies (asked_answer settings root ask content) before now reply
+    answered_replied before now (Refused why) begun = absurd begun
+    answered_replied before now (Body kind n part cursor) begun =
         let has : HasLength kind n = rw (begun.0, begun.1) (has_length ask.leaf (length body.bytes.items)) in
         replied settings root ask (λ files. body.bytes.items) (λ files. end_of body.cut) content before now kind n part cursor answered begun.0 has (told_all content _ (λ files. begun.1)) begun.2
 
-    pub made_begins : (reply : Reply Cursor) → IsBegun ask.leaf body reply → Begins (asked_answer settings root ask content) content reply
-    made_begins (Refused why) begun = absurd begun
-    made_begins (Body kind n part (Made b)) begun = record {
+    pub answered_begins : (reply : Reply Cursor) → IsBegun ask.leaf body reply → Begins (asked_answer settings root ask content) content reply
+    answered_begins (Refused why) begun = absurd begun
+    answered_begins (Body kind n part (Made b)) begun = record {
       belongs = tt;
       under_way = begun.3.waits;
       few = lit< tt;
       rest = rests settings root ask (λ files. body.bytes.items) (λ files. end_of body.cut) content (Made b) answered (told_all content _ (λ files. rw (begun.3.body, begun.3.waits) refl));
       in_packets = begun.3.in_packets ∙ stream_unmeasured ask.leaf (length body.bytes.items) ∙ ap is_none (sym begun.1);
     }
-    made_begins (Body kind n part (Fragment b)) begun = absurd begun.3
-    made_begins (Body kind n part (Stream b)) begun = absurd begun.3
+    answered_begins (Body kind n part (Fragment b)) begun = absurd begun.3
+    answered_begins (Body kind n part (Stream b)) begun = absurd begun.3
+
+  module _ (log log_now : Option (List Read)) where
+    pub made_refused : (before now : ℕ) (e : Refusal) → IsPathRefusal e → (e ≡ StoreFailed → Rose before now)
+        → IfSome content (λ files. IsAskAnswer (setup_of settings root files) ask (Err e) log log_now) → Replies (asked_answer settings root ask content) before now (Refused e)
+    made_refused before now e may rose told =
+        refused settings root ask content before now e may rose
+        (told_with_all content _ _ told (λ files came known_memory known_store. answer-err (setup_of settings root files) ask e (came.answered known_memory known_store)))
+
+    module _ (body : FlatBody) (told : IfSome content (λ files. IsAskAnswer (setup_of settings root files) ask (Ok body) log log_now)) where
+      answered : IfSome content (IsAnswered settings root ask (λ files. body.bytes.items) (λ files. end_of body.cut))
+      answered = told_with_all content _ _ told (λ files came. answer-body (setup_of settings root files) ask body came.answered)
+
+      pub made_replied : (before now : ℕ) (reply : Reply Cursor) → IsBegun ask.leaf body reply → Replies (asked_answer settings root ask content) before now reply
+      made_replied = answered_replied body answered
+
+      pub made_begins : (reply : Reply Cursor) → IsBegun ask.leaf body reply → Begins (asked_answer settings root ask content) content reply
+      made_begins = answered_begins body answered
 
 -- ---- a step
 

@@ -39,8 +39,8 @@ pub(crate) fn plain_reply<S: Store>(
     }
 }
 
-// The reply with the body of a leaf.
-fn begun(leaf: Leaf, body: FlatBody) -> Reply<Cursor>
+/// The reply with the body of a leaf.
+pub(crate) fn begun(leaf: Leaf, body: FlatBody) -> Reply<Cursor>
     requires { is_stream leaf ≡ true → IsInPackets body }
     ensures { IsBegun leaf body result }
 {

@@ -103,8 +103,8 @@ pub(crate) fn plan<S: Store>(
     planned
 }
 
-// The metadata that are kept, and none where nothing was kept yet. The only refusal is `NoMemory`.
-fn kept(alloc: Global, metas: Option<Metas>) -> Result<Metas, Refusal>
+/// The metadata that are kept, and none where nothing was kept yet. The only refusal is `NoMemory`.
+pub(crate) fn kept(alloc: Global, metas: Option<Metas>) -> Result<Metas, Refusal>
     ensures held { (content : Option Files) → AreHeld content metas → IfOk result (λ held. IfSome content (λ files. AreTrue files held)) }
     ensures refused { IfErr result IsPathRefusal }
     ensures only { IfErr result (λ refusal. refusal ≡ Refusal.NoMemory) }

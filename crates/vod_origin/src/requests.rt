@@ -9,6 +9,7 @@ ghost use Rattle.mp4_flat.specs.Built.{IsBuiltAsk};
 use crate::bodies::plain_reply;
 use crate::cursor::Cursor;
 use crate::fragments::fragment_reply;
+use crate::lists::playlist_reply;
 use crate::plans::{plan, sequence_cut};
 use crate::streams::stream_reply;
 use crate::wanted::{Wanted, wanted_of};
@@ -17,9 +18,10 @@ use vod_http::Reply;
 use vod_meta::Metas;
 use vod_plan::Plan;
 use vod_source::Store;
-use vod_types::{Ask, Form, Settings};
+use vod_types::{Ask, Form, Leaf, Settings};
 
-/// The reply to a request: segments and single I-frames by plans over the metadata that are kept, and all else by the plain way.
+/// The reply to a request: segments, single I-frames and media playlists over the metadata that are kept, and all else by the
+/// plain way.
 pub(crate) fn ask_reply<S: Store>(
     alloc: Global,
     metas: &mut Option<Metas>,
@@ -41,7 +43,32 @@ pub(crate) fn ask_reply<S: Store>(
         Some((sequence, wanted)) => planned_reply(
             alloc, metas, store, settings, root, ask, sequence, wanted, head_only,
         ),
-        None => plain_reply(alloc, store, settings, root, ask),
+        None => made_reply(alloc, metas, store, settings, root, ask),
+    }
+}
+
+// The reply with a body that is made whole.
+fn made_reply<S: Store>(
+    alloc: Global,
+    metas: &mut Option<Metas>,
+    store: &mut S,
+    settings: &Settings,
+    root: &str,
+    ask: Ask,
+) -> Reply<Cursor>
+    requires ask { IsBuiltAsk ask }
+    requires held { AreHeld (S.content store.old) metas.old }
+    ensures replies { Replies (asked_answer settings.now root.now ask (S.content store.old)) (S.faults store.old) (S.faults store.new) result }
+    ensures begins { Begins (asked_answer settings.now root.now ask (S.content store.old)) (S.content store.old) result }
+    ensures held { AreHeld (S.content store.new) metas.new }
+    ensures content { S.content store.new ≡ S.content store.old }
+    ensures later { S.faults store.old ≤ S.faults store.new }
+{
+    match ask.leaf {
+        Leaf::Index { sequence, asked } => {
+            playlist_reply(alloc, metas, store, settings, root, ask, sequence, asked)
+        }
+        _ => plain_reply(alloc, store, settings, root, ask),
     }
 }
 
