@@ -148,7 +148,7 @@ rows_end kind file base start r good some =
 
 -- ---- the first row with which a cell may begin
 
-position_in_front : {X : Type 0} (p : X → Bool) (m : ℕ) (xs : List X) → position_or_len p (take m xs) ≡ min m (position_or_len p xs)
+pub position_in_front : {X : Type 0} (p : X → Bool) (m : ℕ) (xs : List X) → position_or_len p (take m xs) ≡ min m (position_or_len p xs)
 position_in_front p zero xs = omega arith
 position_in_front p (suc m) [] = omega arith
 position_in_front p (suc m) (x ∷ xs) = go (p x) (position_in_front p m xs)

@@ -64,11 +64,11 @@ bound_found s s₁ s₂ s₃ x y h i j = omega (arith, h, i, j)
 bound_unplaced : (s s₁ s₂ x y : ℕ) → s₁ ≤ s + 1280 * x → s₂ ≤ s₁ + 256 * x → s₂ ≤ s + (4096 * x + 8 * y)
 bound_unplaced s s₁ s₂ x y h i = omega (arith, h, i)
 
-no_more : (s x : ℕ) → s ≤ s + x
+pub no_more : (s x : ℕ) → s ≤ s + x
 no_more s x = omega arith
 
 -- all pieces are looked at where none is refused
-all_looked : (f : Piece → Result CheckedPiece Refusal) (ps : List Piece) (cs : List CheckedPiece) → each_in_turn f ps ≡ Ok cs → length (through_first (λ p. is_err (f p)) ps) ≡ length cs
+pub all_looked : (f : Piece → Result CheckedPiece Refusal) (ps : List Piece) (cs : List CheckedPiece) → each_in_turn f ps ≡ Ok cs → length (through_first (λ p. is_err (f p)) ps) ≡ length cs
 all_looked f [] cs e = let none : [] ≡ cs = cc in ap (λ (cs : List CheckedPiece). length cs) none
 all_looked f (p ∷ ps) cs e =
     let first = bind_ok (f p) (λ c. each_in_turn f ps >>= λ cs. Ok (c ∷ cs)) cs e in
@@ -113,7 +113,7 @@ either_length None h x y = absurd (true≢false (sym h))
 either_length (Some n) h x y = refl
 
 -- checked pieces are the sources of their pieces
-sources_are : (known : Files) (edits : Bool) (asked : Asked) (ps : List Piece) (cs : List CheckedPiece) → each_in_turn (checked known edits asked) ps ≡ Ok cs → map (source_of known edits asked) ps ≡ map source_piece cs
+pub sources_are : (known : Files) (edits : Bool) (asked : Asked) (ps : List Piece) (cs : List CheckedPiece) → each_in_turn (checked known edits asked) ps ≡ Ok cs → map (source_of known edits asked) ps ≡ map source_piece cs
 sources_are known edits asked [] cs e = let none : [] ≡ cs = cc in ap (map source_piece) none
 sources_are known edits asked (p ∷ ps) cs e =
     let first = bind_ok (checked known edits asked p) (λ c. each_in_turn (checked known edits asked) ps >>= λ cs. Ok (c ∷ cs)) cs e in
@@ -301,7 +301,7 @@ module _ (known : Files) (edits : Bool) (g : SegmentGrid) (align : Bool) (asked 
       let both = and_parts (is_some part.length_ms) (list_all (λ q. is_some q.length_ms) parts) h in
       ap₂ (λ (n : ℕ) (ns : List ℕ). cells g n ∷ ns) (either_length part.length_ms both.0 _ 0) (counts_declared parts both.1)
 
-  counts_are : is_declared t ≡ true → counts cutting asked t ≡ declared_counts g t.parts
+  pub counts_are : is_declared t ≡ true → counts cutting asked t ≡ declared_counts g t.parts
   counts_are declared = counts_declared t.parts declared
 
 part_declared : (parts : List Part) (i : ℕ) (part : Part) → list_all (λ q. is_some q.length_ms) parts ≡ true → slice_get parts i ≡ Some part → is_some part.length_ms ≡ true
@@ -417,7 +417,7 @@ some_part t e = by_parts t.parts e
 
 module _ (known : Files) (edits : Bool) (g : SegmentGrid) (align : Bool) (asked : Asked) (t : Timeline) (number : ℕ) (wanted : Wanted) (part : Part) (h : IsTimeline t.pieces t.parts) (open_end : is_declared t ≡ false) (at : slice_get t.parts 0 ≡ Some part)
     (shown : List Piece) (is : shown ≡ part_pieces t part) (held held_now : List HeldMovie) (log log_now : Option (List Read)) where
-  whole_part : (part.length_ms ≡ None) × (part_pieces t part ≡ t.pieces)
+  pub whole_part : (part.length_ms ≡ None) × (part_pieces t part ≡ t.pieces)
   whole_part = undeclared_part t 0 part h open_end at
 
   abbrev seen_all : List Piece
@@ -449,7 +449,7 @@ module _ (known : Files) (edits : Bool) (g : SegmentGrid) (align : Bool) (asked 
         ∙ ap (λ (ss : List SourcePiece). milliseconds (lead_end part.start (timeline ss).lead)) (sources_are known edits asked seen_all all_checked looks.answered.1)
         ∙ ap (λ (rows : TrackRows). milliseconds (lead_end part.start rows.lead)) (sym (found_rows asked all_checked n.pieces.items checked_soundly looks.answered.2))
 
-    counts_is : counts (cutting_of known g align edits) asked t ≡ count ∷ []
+    pub counts_is : counts (cutting_of known g align edits) asked t ≡ count ∷ []
     counts_is =
         ap (λ (parts : List Part). cell_counts g align (map (source_part known edits asked t) parts)) (only t.parts at (no_length t.parts t.parts h.open_lengths open_end))
         ∙ ap (λ (n : ℕ). cells g n ∷ []) length_is ∙ ap (λ (n : ℕ). n ∷ []) (sym counted)

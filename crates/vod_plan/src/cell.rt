@@ -128,11 +128,12 @@ fn first_beginning<L: Ledger>(
     place
 }
 
-// How many rows of a kind there are.
-fn count_of(pieces: &[PlanPiece], kind: Kind) -> u64
+/// How many rows of a kind there are.
+pub(crate) fn count_of(pieces: &[PlanPiece], kind: Kind) -> u64
     requires few { length pieces.now ≤ 1024 }
     requires pieces { All IsSound pieces.now }
-    ensures { result ≡ length (planned_of kind (map piece_view pieces.now)) }
+    ensures count { result ≡ length (planned_of kind (map piece_view pieces.now)) }
+    ensures small { result ≤ length pieces.now * 2 ^ 32 }
 {
     let mut count = 0;
     for piece in pieces {
@@ -253,8 +254,8 @@ fn index_at<L: Ledger>(
     }
 }
 
-// How many rows of a kind of a piece stand before the first that isn't before a time and, with alignment, is a sync row.
-fn index_by<L: Ledger>(
+/// How many rows of a kind of a piece stand before the first that isn't before a time and, with alignment, is a sync row.
+pub(crate) fn index_by<L: Ledger>(
     piece: &PlanPiece,
     kind: Kind,
     align: bool,

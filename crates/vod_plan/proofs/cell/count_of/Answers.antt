@@ -15,5 +15,5 @@ loop-piece-preserved c =
       small = omega (arith, c.from-count.ensures, c.loop-piece.invariant.small);
     }
 
-pub returns : goal.returns
-returns c = let none = ap length (rest_end c.args.kind c.args.pieces.now c.loop-piece.piece-index (omega (arith, c.loop-piece-test.false))) in omega (arith, none, c.loop-piece.invariant.count)
+pub returns-clause-count : goal.returns-clause-count
+returns-clause-count c = let none = ap length (rest_end c.args.kind c.args.pieces.now c.loop-piece.piece-index (omega (arith, c.loop-piece-test.false))) in omega (arith, none, c.loop-piece.invariant.count)

@@ -18,4 +18,4 @@ returns-then-k-cells-clause-row g c =
 
 pub returns-else-k-cells-clause-row : goal.returns-else-k-cells-clause-row
 returns-else-k-cells-clause-row g c =
-    end_is (part_grid_of c.args.cells) c.args.k (planned_of c.args.leads (map piece_view c.args.pieces.now)) c.count_of.result c.if-k-cells.false c.count_of.ensures
+    end_is (part_grid_of c.args.cells) c.args.k (planned_of c.args.leads (map piece_view c.args.pieces.now)) c.count_of.result c.if-k-cells.false c.count_of.ensures.count
