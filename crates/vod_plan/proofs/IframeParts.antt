@@ -1,5 +1,5 @@
 -- The I-frames of parts, put behind others one after another.
-use Rattle.std.proofs.Common.{◌≡◌, ℕ, suc, ◌+◌, ◌-◌, ◌*◌, ◌<◌, ◌≤◌, min, Bool, true, false, List, [], ◌∷◌, ◌++◌, length, map, take, drop, get_or, slice_range, ℤ, pos, refl, sym, ap, ap₂, ◌∙◌, subst, arith, append-nil, append_assoc, drop-cons, length-append}
+use Rattle.std.proofs.Common.{◌≡◌, ℕ, suc, ◌+◌, ◌*◌, ◌<◌, ◌≤◌, min, Bool, true, false, List, [], ◌∷◌, ◌++◌, length, map, take, drop, get_or, slice_range, pos, refl, sym, ap, ap₂, ◌∙◌, subst, arith, append-nil, append_assoc, drop-cons, length-append}
 use Rattle.std.specs.List.{flat_map, range_with_len}
 use Rattle.std.proofs.lemmas.List.{drop_all, take_all}
 use Rattle.vod_types.specs.declared.tracks.Asked.{Asked}
@@ -8,7 +8,7 @@ use Rattle.vod_types.specs.Tracks.{lead_of}
 use Rattle.clip_model.specs.declared.Part.{Part}
 use Rattle.clip_model.specs.IsTimeline.{Follow}
 use Rattle.segment_model.specs.Grid.{SegmentGrid, PartGrid, part_grid}
-use Rattle.segment_model.specs.Iframes.{iframes, iframes_from, lone_iframes, part_iframes, segment_iframes}
+use Rattle.segment_model.specs.Iframes.{iframes_from, lone_iframes, part_iframes, segment_iframes}
 use Rattle.segment_model.specs.Lone.{first_row, lone_cell}
 use Rattle.segment_model.specs.Rows.{TimedRow}
 use Rattle.segment_model.specs.Timeline.{SourcePiece, TrackRows, lead_end, timeline}

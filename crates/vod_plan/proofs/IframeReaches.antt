@@ -1,6 +1,5 @@
 -- Sync rows among the rows of several pieces, found from a row on.
-use Rattle.std.proofs.Common.{◌≡◌, ℕ, ◌+◌, ◌-◌, ◌<◌, ◌≤◌, max, min, Bool, List, [], ◌++◌, length, map, take, drop, get_or, ℤ, Option, Some, None, refl, sym, ap, ap₂, ◌∙◌, arith, drop-drop}
-use Rattle.std.specs.Prelude.{slice_get, IfSome}
+use Rattle.std.proofs.Common.{◌≡◌, ℕ, ◌+◌, ◌-◌, ◌<◌, ◌≤◌, min, Bool, List, [], ◌++◌, length, map, drop, get_or, ℤ, Option, Some, sym, ap, ◌∙◌, arith, drop-drop}
 use Rattle.std.specs.List.{position_or_len, range_with_len}
 use Rattle.std.specs.Option.{option_map_or}
 use Rattle.std.proofs.lemmas.List.{drop_all, drop-append-le, length-drop, take_all}
@@ -18,7 +17,7 @@ use Rattle.vod_plan.specs.Spans.{piece_view, rows_in, IsRange}
 use Rattle.vod_plan.proofs.JoinLemmas.{position-within, position-past}
 use Rattle.vod_plan.proofs.NarrowLemmas.{narrow_rows}
 use Rattle.vod_plan.proofs.PlaceLemmas.{rest, rest_end}
-use Rattle.vod_plan.proofs.RangeLemmas.{numbers, part, part_length, planned_from, row_of, rows_are, rows_length, source}
+use Rattle.vod_plan.proofs.RangeLemmas.{numbers, part, part_length, planned_from, rows_are, rows_length, source}
 use Rattle.vod_plan.proofs.SeekLemmas.{position_in_front}
 use Rattle.vod_plan.proofs.SoundLemmas.{good_part, view_item}
 

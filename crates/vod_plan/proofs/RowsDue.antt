@@ -256,7 +256,7 @@ module _ (known : Files) (edits : Bool) (g : SegmentGrid) (align : Bool) (asked 
           ∙ sym (length-map all_checked (λ c. c.piece))
           ∙ ap (λ (ps : List Piece). length ps) (pieces_are known edits asked t.pieces all_checked checked_all)
 
-      many_found : length n.pieces.items ≡ looked_count known edits asked seen
+      pub many_found : length n.pieces.items ≡ looked_count known edits asked seen
       many_found = sym (all_looked (checked known edits asked) seen all_checked looks.answered.1 ∙ found_count all_checked n.pieces.items looks.answered.2)
 
       more_found : (s s₁ : ℕ) → s₁ ≤ s + 256 * (length n.pieces.items * tracks_asked asked) → s₁ ≤ s + 256 * (looked_count known edits asked seen * tracks_asked asked)

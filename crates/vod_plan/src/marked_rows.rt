@@ -1,7 +1,7 @@
 //! The rows of I-frames.
 
 ghost use Rattle.std.specs.Prelude.{◌≡◌, ◌≢◌, ◌≤◌, ◌<◌, List, IfErr, IfOk, length, min};
-ghost use Rattle.vod_types.specs.declared.refusal.Refusal.TheVariants.{NoMemory, TooManyIframes};
+ghost use Rattle.vod_types.specs.declared.refusal.Refusal.TheVariants.{NoMemory, StoreFailed, TooManyIframes};
 ghost use Rattle.answer_laws.specs.Refusals.{IsPathRefusal};
 ghost use Rattle.vod_plan.specs.declared.iframe_marks.Mark.{Mark};
 ghost use Rattle.vod_plan.specs.IframeMarks.{end_of_mark, row_of_mark, rows_of_marks, AreAll};
@@ -15,6 +15,7 @@ pub(crate) fn listed_rows(alloc: Global, marks: &Marks) -> Result<Vec<IframeRow>
     ensures listed { IfOk result (λ rows. (all : List Mark) → AreAll all marks.now → (rows.items ≡ rows_of_marks 0 all) × (length all ≤ 100000)) }
     ensures only { IfErr result (λ refusal. refusal ≢ NoMemory → (all : List Mark) → AreAll all marks.now → (100000 < length all) × (refusal ≡ TooManyIframes (length all))) }
     ensures refused { IfErr result IsPathRefusal }
+    ensures no_store { IfErr result (λ refusal. refusal ≢ StoreFailed) }
 {
     if marks.count > 100_000 {
         return Err(Refusal::TooManyIframes { count: marks.count });

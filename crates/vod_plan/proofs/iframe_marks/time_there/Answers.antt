@@ -1,5 +1,5 @@
 -- The row that is reached is one of its piece.
-use Rattle.std.proofs.Common.{◌≡◌, ◌<◌, ℤ, List, Some, w64, of_z, to_z, length, refl, ap, ◌∙◌, arith}
+use Rattle.std.proofs.Common.{◌≡◌, ℤ, Some, w64, of_z, to_z, length, refl, ap, ◌∙◌, arith}
 use Rattle.std.proofs.lemmas.Int.{ints}
 use Rattle.std.proofs.lemmas.Option.{slice_get_read}
 use Rattle.vod_plan.proofs.ListingReaches.{time_reached}

@@ -1,5 +1,5 @@
 -- From part to part.
-use Rattle.std.proofs.Common.{◌≡◌, ◌+◌, ◌-◌, ◌*◌, ◌<◌, ◌≤◌, ◌++◌, ℕ, List, drop, get_or, length, map, min, refl, ap, subst, ◌∙◌, arith, length-append}
+use Rattle.std.proofs.Common.{◌≡◌, ◌+◌, ◌-◌, ◌<◌, ◌≤◌, ℕ, List, drop, get_or, length, map, refl, ap, subst, ◌∙◌, arith, length-append}
 use Rattle.std.specs.Prelude.{sum}
 use Rattle.std.proofs.lemmas.List.{length-map}
 use Rattle.segment_model.specs.Grid.{PartGrid}
@@ -13,7 +13,7 @@ use Rattle.vod_plan.specs.IframeMarks.{mark_at, marks_from}
 use Rattle.vod_plan.specs.ListingCells.{part_rows}
 use Rattle.vod_plan.specs.ListingParts.{part_over}
 use Rattle.vod_plan.proofs.IframeParts.{left_marks, looks_all, looks_next, marks_last, marks_next, own_marks, rest_all, rest_begin, rest_more, AreMarkLooks, AreRest}
-use Rattle.vod_plan.proofs.ListingRests.{no_part, sum_left}
+use Rattle.vod_plan.proofs.ListingRests.{sum_left}
 use Rattle.vod_plan.proofs.iframe_parts.marks_of_parts.Goals as goal
 
 pub loop-place-init : goal.loop-place-init

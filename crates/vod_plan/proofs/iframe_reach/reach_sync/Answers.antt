@@ -1,13 +1,11 @@
 -- A search for a sync row that goes on from piece to piece.
-use Rattle.std.proofs.Common.{◌≡◌, ◌+◌, ◌<◌, ◌≤◌, ℕ, Some, drop, length, map, refl, sym, ap, ◌∙◌, arith}
-use Rattle.std.specs.Prelude.{slice_get}
-use Rattle.std.proofs.lemmas.Option.{same_Some, slice_get_read}
-use Rattle.vod_plan.specs.declared.spans.PlanPiece.{PlanPiece}
+use Rattle.std.proofs.Common.{◌≡◌, ◌+◌, ◌<◌, ℕ, drop, length, map, refl, sym, ap, ◌∙◌, arith}
+use Rattle.std.proofs.lemmas.Option.{slice_get_read}
 use Rattle.vod_plan.specs.Ranges.{planned_of}
 use Rattle.vod_plan.specs.Spans.{piece_view, rows_in}
-use Rattle.vod_plan.proofs.IframeReaches.{first_sync, sync_begin, sync_ended, sync_here, sync_later}
+use Rattle.vod_plan.proofs.IframeReaches.{sync_begin, sync_ended, sync_here, sync_later}
 use Rattle.vod_plan.proofs.ListingReaches.{behind_next, reached_here, reached_behind}
-use Rattle.vod_plan.proofs.PlaceLemmas.{rest, rest_end}
+use Rattle.vod_plan.proofs.PlaceLemmas.{rest}
 use Rattle.vod_plan.proofs.SoundLemmas.{sound_at}
 use Rattle.vod_plan.proofs.iframe_reach.reach_sync.Goals as goal
 

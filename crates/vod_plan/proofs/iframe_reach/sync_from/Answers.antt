@@ -1,5 +1,5 @@
 -- The first sync row of a track from a row on, if it is one of the piece.
-use Rattle.std.proofs.Common.{◌≡◌, ◌+◌, ◌-◌, ◌<◌, ◌≤◌, min, true, ap, ◌∙◌, arith}
+use Rattle.std.proofs.Common.{◌≡◌, ◌+◌, ◌-◌, true, ap, ◌∙◌, arith}
 use Rattle.mp4_model.specs.Samples.{first_sync_from}
 use Rattle.vod_plan.specs.Spans.{piece_view}
 use Rattle.vod_plan.proofs.IframeReaches.{piece_ended, piece_sync}

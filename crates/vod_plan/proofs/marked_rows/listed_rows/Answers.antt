@@ -1,5 +1,5 @@
 -- Too many, or the rows of those that are kept, which are all.
-use Rattle.std.proofs.Common.{◌≡◌, ap, ◌∙◌, arith}
+use Rattle.std.proofs.Common.{ap, ◌∙◌, arith}
 use Rattle.vod_plan.specs.IframeMarks.{rows_of_marks}
 use Rattle.vod_plan.proofs.IframeRows.{err_all, kept_rows, more_rows, ok_all}
 use Rattle.vod_plan.proofs.marked_rows.listed_rows.Goals as goal

@@ -1,7 +1,6 @@
 -- The I-frames of a cell, one after another.
-use Rattle.std.proofs.Common.{◌≡◌, ◌+◌, ◌-◌, ◌*◌, ◌<◌, ◌≤◌, ◌∷◌, [], ℕ, ℤ, List, Some, length, drop, refl, sym, ap, ◌∙◌, arith, rules, FitsSigned, w64}
+use Rattle.std.proofs.Common.{◌≡◌, ◌+◌, ◌-◌, ◌<◌, ◌∷◌, [], ℕ, ℤ, drop, refl, sym, ap, ◌∙◌, arith, rules, FitsSigned, w64}
 use Rattle.std.proofs.lemmas.Int.{to_z-of_z}
-use Rattle.segment_model.specs.Rows.{TimedRow}
 use Rattle.vod_plan.specs.declared.iframe_marks.Mark.{Mark}
 use Rattle.vod_plan.specs.IframeMarks.{first_sync}
 use Rattle.vod_plan.specs.ListingCells.{part_rows}

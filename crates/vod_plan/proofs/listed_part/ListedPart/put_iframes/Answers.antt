@@ -1,5 +1,5 @@
 -- No lead row, or the I-frames of the cells.
-use Rattle.std.proofs.Common.{◌≡◌, map, sym, ap, ◌∙◌}
+use Rattle.std.proofs.Common.{map, sym, ap, ◌∙◌}
 use Rattle.std.proofs.lemmas.List.Elements.{All-weaker}
 use Rattle.segment_model.specs.Timeline.{lead_end}
 use Rattle.seq_cells.specs.Cells.{part_grid_of}
