@@ -1,5 +1,5 @@
 -- The listed segments of a part, found by going on from cell to cell.
-use Rattle.std.proofs.Common.{◌≡◌, ℕ, zero, suc, ◌+◌, ◌-◌, ◌*◌, ◌<◌, ◌≤◌, Bool, true, false, cond, not, ◌&&◌, List, [], ◌∷◌, ◌++◌, length, map, filter, ℤ, ◌≤ℤ◌, Option, Some, None, slice_get, slice_range, refl, sym, ap, ap₂, ◌∙◌, subst, arith, ltb, int_le, length-take, length-drop, append-nil, append_assoc, length-append}
+use Rattle.std.proofs.Common.{◌≡◌, ℕ, zero, suc, ◌+◌, ◌-◌, ◌*◌, ◌<◌, ◌≤◌, Bool, true, false, cond, not, ◌&&◌, List, [], ◌∷◌, ◌++◌, length, map, filter, All, ℤ, ◌≤ℤ◌, Option, Some, None, slice_get, slice_range, refl, sym, ap, ap₂, ◌∙◌, subst, arith, ltb, int_le, length-take, length-drop, append-nil, append_assoc, length-append}
 use Rattle.std.specs.Prelude.{unwrap_or, nat_eq, option_map}
 use Rattle.std.specs.List.{position_or_len, range_with_len}
 use Rattle.std.proofs.lemmas.Bool.{lt-ltb, le-ltb}
@@ -23,7 +23,7 @@ use Rattle.segment_model.proofs.Marks.{seek, seek_rises, seek-le-length}
 use Rattle.seq_cells.specs.Cells.{part_grid_of}
 use Rattle.vod_plan.specs.declared.listed_part.CellStart.{CellStart}
 use Rattle.vod_plan.specs.declared.listed_part.ListedPart.{ListedPart}
-use Rattle.vod_plan.specs.ListingCells.{counted, first_after, other_from, part_rows, row_between, segment_between, AreFronts}
+use Rattle.vod_plan.specs.ListingCells.{counted, first_after, other_from, part_rows, row_between, segment_between, AreFronts, HasPart}
 use Rattle.vod_plan.specs.ListingReach.{place_of}
 use Rattle.vod_plan.specs.Narrowed.{is_after}
 use Rattle.vod_plan.specs.Selected.{begins_by}
@@ -264,6 +264,7 @@ pub record IsListing (p : ListedPart) (before : List Listed) (others k : ℕ) (f
   pub fronts : AreFronts p.leads p.pieces.now from
   pub others_are : others ≡ length before
   pub few : length out ≤ length before + k
+  pub parts : All HasPart before → All HasPart out
   pub looks : steps_now ≤ steps + 256 * (from.lead.piece + from.other.piece) + 640 + 640 * k
   pub listed : (s : ℤ) → PlaceRises s (part_rows p).lead → PlaceRises s (part_rows p).other
       → IsBegin (part_grid_of p.cells) (part_rows p) k from

@@ -1,6 +1,7 @@
 -- The listed segments of a part, from cell to cell; this project's own.
 use Rattle.std.specs.Prelude.{ℕ, ◌-◌, ◌≤◌, ◌^◌, Bool, List, map, slice_get, unwrap_or, Option, ℤ, ◌-ℤ◌, unsigned_abs, IfSome}
 use Rattle.std.specs.List.{position_or_len}
+use Rattle.vod_types.specs.declared.segments.Listed.{Listed}
 use Rattle.vod_types.specs.declared.segments.SegmentRow.{SegmentRow}
 use Rattle.vod_types.specs.declared.tracks.Kind.{Kind}
 use Rattle.vod_types.specs.declared.tracks.Kind.TheVariants.{Video, Audio}
@@ -46,3 +47,7 @@ pub record AreFronts (leads : Kind) (ps : List PlanPiece) (s : CellStart) : Type
   pub lead : IsFront leads ps s.lead
   pub other : IsFront (other_kind leads) ps s.other
   pub time : IfSome s.time (λ time. unsigned_abs time ≤ 2 ^ 43)
+
+-- the number of its part has at most four digits, as names have it
+abbrev pub HasPart : Listed → Type 0
+HasPart l = l.row.part ≤ 9999

@@ -8,7 +8,7 @@ ghost use Rattle.segment_model.specs.Listing.{listed_view};
 ghost use Rattle.segment_model.specs.Lone.{first_row, lone_segments};
 ghost use Rattle.segment_model.specs.Timeline.{lead_end};
 ghost use Rattle.seq_cells.specs.Cells.{part_grid_of};
-ghost use Rattle.vod_plan.specs.ListingCells.{counted, first_after, other_from, part_rows, segment_between, AreFronts};
+ghost use Rattle.vod_plan.specs.ListingCells.{counted, first_after, other_from, part_rows, segment_between, AreFronts, HasPart};
 ghost use Rattle.vod_plan.specs.ListingReach.{place_of, IsFront, IsReached};
 ghost use Rattle.vod_plan.specs.Narrowed.{other_kind as other_kind_of, IsSound};
 ghost use Rattle.vod_plan.specs.Segments.{has_rows as has_rows_of};
@@ -54,10 +54,12 @@ impl ListedPart<'_> {
         requires cells { self.now.cells.cells ≤ 100000 }
         requires numbers { self.now.number + self.now.cells.cells < 2 ^ 32 }
         requires start { IsTime self.now.cells.start }
+        requires part { self.now.part ≤ 9999 }
         ensures listed { OnOk result ((s : ℤ) → PlaceRises s (part_rows self.now).lead → PlaceRises s (part_rows self.now).other →
             map listed_view out.new.items ≡ map listed_view out.old.items
             ++ lone_segments self.now.leads self.now.part self.now.number (part_grid_of self.now.cells) (part_rows self.now)) }
         ensures count { OnOk result (length out.new.items ≤ length out.old.items + self.now.cells.cells) }
+        ensures parts { OnOk result (All HasPart out.old.items → All HasPart out.new.items) }
         ensures only { IfErr result (λ refusal. refusal ≡ NoMemory) }
         ensures looks { steps.new ≤ steps.old + 512 * length self.now.pieces.now + 896 + 640 * self.now.cells.cells }
         ensures none { has_rows_of self.now.leads self.now.pieces.now ≡ false → steps.new ≤ steps.old }
@@ -83,10 +85,12 @@ impl ListedPart<'_> {
         requires start { IsTime self.now.cells.start }
         requires end { end ≡ lead_end self.now.cells.start (part_rows self.now).lead }
         requires small { unsigned_abs end ≤ 2 ^ 43 }
+        requires part { self.now.part ≤ 9999 }
         ensures listed { OnOk result ((s : ℤ) → PlaceRises s (part_rows self.now).lead → PlaceRises s (part_rows self.now).other →
             map listed_view out.new.items ≡ map listed_view out.old.items
             ++ lone_segments self.now.leads self.now.part self.now.number (part_grid_of self.now.cells) (part_rows self.now)) }
         ensures count { OnOk result (length out.new.items ≤ length out.old.items + self.now.cells.cells) }
+        ensures parts { OnOk result (All HasPart out.old.items → All HasPart out.new.items) }
         ensures only { IfErr result (λ refusal. refusal ≡ NoMemory) }
         ensures looks { steps.new ≤ steps.old + 512 * length self.now.pieces.now + 640 + 640 * self.now.cells.cells }
     {
@@ -128,9 +132,11 @@ impl ListedPart<'_> {
         requires from { AreFronts self.now.leads self.now.pieces.now from }
         requires next { AreFronts self.now.leads self.now.pieces.now next }
         requires end { unsigned_abs end ≤ 2 ^ 43 }
+        requires part { self.now.part ≤ 9999 }
         ensures row { OnOk result (map listed_view out.new.items ≡ map listed_view out.old.items ++ cond (nat_lt (place_of from.lead) (place_of next.lead))
             (segment_between self.now.leads self.now.part (self.now.number + k) end from next (length out.old.items == others) ∷ []) []) }
         ensures count { OnOk result (length out.new.items ≤ length out.old.items + 1) }
+        ensures parts { OnOk result (All HasPart out.old.items → All HasPart out.new.items) }
         ensures only { IfErr result (λ refusal. refusal ≡ NoMemory) }
     {
         if from.lead.place() < next.lead.place() {
@@ -154,6 +160,7 @@ impl ListedPart<'_> {
         requires next { AreFronts self.now.leads self.now.pieces.now next }
         requires end { unsigned_abs end ≤ 2 ^ 43 }
         ensures row { listed_view result ≡ segment_between self.now.leads self.now.part (self.now.number + k) end from next first_in_part }
+        ensures part { result.row.part ≡ self.now.part }
     {
         let start = time_or(from.time, end);
         let row = SegmentRow {

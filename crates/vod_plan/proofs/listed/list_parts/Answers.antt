@@ -37,6 +37,7 @@ loop-place-preserved g c =
       first = omega (arith, c.loop-place.invariant.first);
       numbers = numbers.0;
       few = omega (arith, c.in-Ok.ensures.count, cells, c.loop-place.invariant.few);
+      parts = c.in-Ok.ensures.parts c.loop-place.invariant.parts;
       rest = λ cs h counts.
           rest_next c.args.cut.grid.now c.args.cut.align c.args.asked c.args.pieces.now cs h parts c.args.counts.now place c.loop-place.number p (map listed_view c.loop-place.out.items) (map listed_view c.list.new.out.items)
           (listed (lead_of c.args.asked) c.args.cut.grid.now c.args.cut.align (map (part_over (map source_piece cs)) parts)) lt counts (c.loop-place.invariant.rest cs h counts)

@@ -1,8 +1,9 @@
 -- One more, or none.
-use Rattle.std.proofs.Common.{◌≡◌, ℕ, ℤ, w64, of_z, to_z, ap, ap₂, ◌∙◌, arith}
+use Rattle.std.proofs.Common.{◌≡◌, ℕ, ℤ, [], ◌∷◌, All, sym, subst, w64, of_z, to_z, ap, ap₂, ◌∙◌, arith}
 use Rattle.std.specs.Prelude.{◌==◌, ◌+◌, length}
 use Rattle.std.proofs.lemmas.Int.{ints}
-use Rattle.vod_plan.specs.ListingCells.{segment_between}
+use Rattle.std.proofs.lemmas.List.Elements.{All-append, All-cons, All-nil}
+use Rattle.vod_plan.specs.ListingCells.{segment_between, HasPart}
 use Rattle.vod_plan.specs.ListingReach.{place_of}
 use Rattle.vod_plan.proofs.ListingSteps.{one_more, none_more}
 use Rattle.vod_plan.proofs.listed_part.ListedPart.list_cell.Goals as goal
@@ -22,4 +23,14 @@ returns-clause-row c =
       | else-place w ↦ none_more (place_of c.args.from.lead) (place_of c.args.next.lead) out c.if-place.out.items due
           (omega (arith, w.if-place.false, c.place.ensures, c.place-2.ensures))
           (ap (λ v. v.items) w.out-is)
+    ]
+
+pub returns-clause-parts : goal.returns-clause-parts
+returns-clause-parts c = λ before.
+    elim c.if-place.branch [
+      | then-place+in_ok-push w ↦
+          let part : HasPart w.segment.result = omega (arith, w.segment.ensures.part, c.requires.part) in
+          subst (All HasPart) (sym (ap (λ v. v.items) w.out-is ∙ w.in_ok-push.ensures.items))
+          (All-append HasPart c.args.out.now.items (w.segment.result ∷ []) before (All-cons HasPart w.segment.result [] part (All-nil HasPart)))
+      | else-place w ↦ subst (All HasPart) (sym (ap (λ v. v.items) w.out-is)) before
     ]

@@ -22,6 +22,7 @@ loop-k-preserved g c =
       fronts = c.begin-next.ensures.fronts;
       others_are = was.others_are;
       few = omega (arith, was.few, c.in_ok-list_cell.ensures.count);
+      parts = λ before. c.in_ok-list_cell.ensures.parts (was.parts before);
       looks = omega (arith, was.looks, c.begin-next.ensures.looks);
       listed = λ s lead other.
           let before = was.listed s lead other in
