@@ -5,7 +5,7 @@ use std::string::String;
 use std::test::Fail;
 use vod_app::run;
 use vod_films::{Damage, avc, damaged, film, ran, store_of, track, two_samples};
-use vod_source::{MemDoor, MemLink, MemSink, MemStore};
+use vod_source::{MemDoor, MemLink, MemSink, MemStore, Store};
 use vod_types::Kind;
 
 // What a peer sends, how many letters `a` stand behind that, and what it is answered, with `@` in place of the segment of 182
@@ -102,12 +102,12 @@ fn served(alloc: Global, words: &str, links: Vec<MemLink>) -> Result<(u8, MemDoo
     served_of(alloc, words, links, store(alloc)?)
 }
 
-// The same over another store.
-fn served_of(
+/// The same over another store.
+pub(crate) fn served_of<S: Store + Drop>(
     alloc: Global,
     words: &str,
     links: Vec<MemLink>,
-    store: MemStore,
+    store: S,
 ) -> Result<(u8, MemDoor, Vec<u8>), Fail> {
     let mut spelled = Vec::new(alloc);
     for word in words.split(' ') {

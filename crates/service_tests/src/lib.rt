@@ -7,6 +7,8 @@ mod connections;
 #[cfg(test)]
 mod ends;
 #[cfg(test)]
+mod long_lists;
+#[cfg(test)]
 mod packs;
 #[cfg(test)]
 mod rehearsals;

@@ -9,7 +9,7 @@ ghost use Rattle.mp4_flat.specs.Built.{IsBuiltAsk};
 use crate::bodies::plain_reply;
 use crate::cursor::Cursor;
 use crate::fragments::fragment_reply;
-use crate::lists::playlist_reply;
+use crate::lists::{iframes_reply, playlist_reply};
 use crate::plans::{plan, sequence_cut};
 use crate::streams::stream_reply;
 use crate::wanted::{Wanted, wanted_of};
@@ -20,8 +20,8 @@ use vod_plan::Plan;
 use vod_source::Store;
 use vod_types::{Ask, Form, Leaf, Settings};
 
-/// The reply to a request: segments, single I-frames and media playlists over the metadata that are kept, and all else by the
-/// plain way.
+/// The reply to a request: segments, single I-frames, media playlists and I-frame playlists over the metadata that are kept, and
+/// all else by the plain way.
 pub(crate) fn ask_reply<S: Store>(
     alloc: Global,
     metas: &mut Option<Metas>,
@@ -67,6 +67,9 @@ fn made_reply<S: Store>(
     match ask.leaf {
         Leaf::Index { sequence, asked } => {
             playlist_reply(alloc, metas, store, settings, root, ask, sequence, asked)
+        }
+        Leaf::Iframes { sequence, video } => {
+            iframes_reply(alloc, metas, store, settings, root, ask, sequence, video)
         }
         _ => plain_reply(alloc, store, settings, root, ask),
     }

@@ -1,0 +1,39 @@
+-- The reply gives the answer by the I-frames, or why there are none.
+use Rattle.std.proofs.Common.{List, None, Err, ap, arith, ◌∙◌}
+use Rattle.vod_types.specs.declared.segments.IframeRow.{IframeRow}
+use Rattle.list_model.specs.Iframes.{iframe_playlist}
+use Rattle.vod_source.proofs.CallLemmas.{told_with_all, told_with_other}
+use Rattle.flat_lists.specs.Asked.{setup_of}
+use Rattle.vod_origin.proofs.ListLemmas.{marks_untimed, marked_with, unmarked}
+use Rattle.vod_origin.proofs.MadeLemmas.{answered_begins, answered_replied}
+use Rattle.vod_origin.proofs.ReplyLemmas.{refused}
+use Rattle.vod_origin.proofs.lists.iframes_reply.Goals as goal
+
+pub returns-in-Err-clause-replies : goal.returns-in-Err-clause-replies
+returns-in-Err-clause-replies g c =
+    refused c.args.settings.now c.args.root.now c.args.ask (g.S.Store.content c.args.store.now) _ _ c.in-Err.refusal c.in-Err.ensures.refused (λ failed. c.in-Err.ensures.store_failed (ap Err failed))
+    (told_with_all (g.S.Store.content c.args.store.now) _ _ c.in-Err.ensures.told
+    (λ files is known_memory known_store. marks_untimed (setup_of c.args.settings.now c.args.root.now files) c.args.ask c.args.sequence c.args.video c.requires.leaf c.in-Err.refusal (is known_memory known_store)))
+
+pub returns-in-Err-marked-clause-replies : goal.returns-in-Err-marked-clause-replies
+returns-in-Err-marked-clause-replies g c =
+    refused c.args.settings.now c.args.root.now c.args.ask (g.S.Store.content c.args.store.now) _ _ c.in-Err-marked.refusal c.in-Err-marked.ensures.refused
+    (λ failed. let rose = c.in-Err-marked.ensures.store_failed (ap Err failed) in omega (arith, rose, c.in-Ok.ensures.later))
+    (told_with_other (g.S.Store.content c.args.store.now) _ _ _ _ c.in-Ok.ensures.content c.in-Ok.ensures.told c.in-Err-marked.ensures.told
+    (λ files is due known_memory known_store. unmarked (setup_of c.args.settings.now c.args.root.now files) c.args.ask c.args.sequence c.args.video c.requires.leaf _ _ c.in-Err-marked.refusal is (due known_memory known_store)))
+
+pub returns-in-Ok-iframe_playlist_of-clause-replies : goal.returns-in-Ok-iframe_playlist_of-clause-replies
+returns-in-Ok-iframe_playlist_of-clause-replies g c =
+    answered_replied c.args.settings.now c.args.root.now c.args.ask (g.S.Store.content c.args.store.now) (record { bytes = c.in-Ok-iframe_playlist_of.bytes; cut = None })
+    (told_with_other (g.S.Store.content c.args.store.now) _ _ _ _ c.in-Ok.ensures.content c.in-Ok.ensures.told c.in-Ok-marked.ensures.told
+    (λ files is due. marked_with (setup_of c.args.settings.now c.args.root.now files) c.args.ask c.args.sequence c.args.video c.requires.leaf _ _ c.in-Ok-marked.marked.items c.in-Ok-iframe_playlist_of.bytes.items is due
+    (c.in-Ok-iframe_playlist_of.ensures.text ∙ ap (λ (rows : List IframeRow). iframe_playlist rows c.args.sequence c.args.video) c.deref.ensures.value)))
+    _ _ c.begun.result c.begun.ensures
+
+pub returns-in-Ok-iframe_playlist_of-clause-begins : goal.returns-in-Ok-iframe_playlist_of-clause-begins
+returns-in-Ok-iframe_playlist_of-clause-begins g c =
+    answered_begins c.args.settings.now c.args.root.now c.args.ask (g.S.Store.content c.args.store.now) (record { bytes = c.in-Ok-iframe_playlist_of.bytes; cut = None })
+    (told_with_other (g.S.Store.content c.args.store.now) _ _ _ _ c.in-Ok.ensures.content c.in-Ok.ensures.told c.in-Ok-marked.ensures.told
+    (λ files is due. marked_with (setup_of c.args.settings.now c.args.root.now files) c.args.ask c.args.sequence c.args.video c.requires.leaf _ _ c.in-Ok-marked.marked.items c.in-Ok-iframe_playlist_of.bytes.items is due
+    (c.in-Ok-iframe_playlist_of.ensures.text ∙ ap (λ (rows : List IframeRow). iframe_playlist rows c.args.sequence c.args.video) c.deref.ensures.value)))
+    c.begun.result c.begun.ensures
