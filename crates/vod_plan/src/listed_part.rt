@@ -198,7 +198,12 @@ impl ListedPart<'_> {
     }
 
     // The first lead row of a cell, if that isn't before an earlier piece; behind the last row for the part's end.
-    pub(crate) fn first_lead<L: Ledger>(&self, k: u64, earlier: Reach, steps: &mut Steps<L>) -> Reach
+    pub(crate) fn first_lead<L: Ledger>(
+        &self,
+        k: u64,
+        earlier: Reach,
+        steps: &mut Steps<L>,
+    ) -> Reach
         requires few { length self.now.pieces.now ≤ 1024 }
         requires pieces { All IsSound self.now.pieces.now }
         requires cell { k ≤ 100001 }
