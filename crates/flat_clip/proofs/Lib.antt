@@ -1,0 +1,11 @@
+pub mod EntryLemmas
+pub mod EditLemmas
+pub mod PlacedLemmas
+pub mod MovieLemmas
+pub mod PieceLemmas
+pub mod DueClips
+pub mod ClipCalls
+pub mod PartLemmas
+pub mod Slices
+pub mod PartCalls
+pub mod WholeCalls

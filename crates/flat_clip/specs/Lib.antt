@@ -1,0 +1,4 @@
+pub mod Tracks
+pub mod Rows
+pub mod Parts
+pub mod Answers
