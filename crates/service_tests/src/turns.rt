@@ -1,6 +1,6 @@
-//! Connections in turns over one origin, by orders of their own.
+//! Connections in turns over one origin.
 
-ghost use Rattle.std.specs.Prelude.{◌<◌, None, All, length};
+ghost use Rattle.std.specs.Prelude.{None};
 ghost use Rattle.std.proofs.Common.{refl};
 
 use std::alloc::Global;
@@ -13,7 +13,7 @@ use vod_films::{film, ran, sound, store_of, two_samples};
 use vod_origin::Origin;
 use vod_session::{LinkEnd, Why};
 use vod_source::{Link, LinkFailed, MemLink, MemStore, Sink, SinkFailed};
-use vod_turns::{LinkState, run_turns, serve_turns};
+use vod_turns::serve_turns;
 use vod_types::{Name, Settings};
 
 // A request for the one segment of the film of two samples, and the head of its reply.
@@ -30,22 +30,6 @@ fn store(alloc: Global) -> Result<MemStore, Fail> {
     store_of(alloc, "/r/a.mp4", two_samples(alloc)?, Vec::new(alloc))
 }
 
-// Lets the connections of these links take steps in an order, over one origin.
-fn in_order(
-    alloc: Global,
-    store: MemStore,
-    links: &mut [MemLink],
-    order: &[u32],
-) -> Result<Vec<LinkState>, Fail>
-    requires { All (λ n. n < length links.old) order.now }
-{
-    let root = Name::new(alloc, "/r")?;
-    let mut origin = Origin::new(store, Settings::defaults(alloc), root);
-    let states = run_turns(alloc, &mut origin, links, order);
-    let _store = origin.into_store();
-    Ok(states?)
-}
-
 // Serves these links to their ends in turns, over one origin.
 fn in_rounds<L: Link>(
     alloc: Global,
@@ -57,17 +41,6 @@ fn in_rounds<L: Link>(
     let ends = serve_turns(alloc, &mut origin, links);
     let _store = origin.into_store();
     Ok(ends?)
-}
-
-// A link that gives these requests in pieces of one byte.
-fn byte_link(alloc: Global, requests: &[&str]) -> Result<MemLink, Fail> {
-    let mut pieces = Vec::new(alloc);
-    for request in requests {
-        for byte in request.as_bytes() {
-            pieces.push(vec![in alloc; *byte]?)?;
-        }
-    }
-    Ok(MemLink::new(alloc, pieces, 10_000, Vec::new(alloc))?)
 }
 
 // The reply to the request, so many times in a row.
@@ -88,43 +61,6 @@ fn ended(requests: u32) -> LinkEnd {
         requests,
         why: Why::EndOfInput,
     }
-}
-
-// Two links in turns are answered both, and a link that no number of an order names isn't touched.
-#[test]
-fn steps_of_an_order_serve_whom_they_name(rt: HostRuntime) -> Result<(), Fail> {
-    let alloc = rt.alloc();
-    let twice = replies(alloc, 2)?;
-    let mut by_turns = Vec::new(alloc);
-    let mut second_alone = Vec::new(alloc);
-    for number in 0..400 {
-        by_turns.push(number % 2)?;
-        if number < 200 {
-            second_alone.push(1)?;
-        }
-    }
-    for (order, first) in [(by_turns, true), (second_alone, false)] {
-        let mut links = vec![in alloc;
-            byte_link(alloc, &[REQUEST, REQUEST])?,
-            byte_link(alloc, &[REQUEST, REQUEST])?,
-        ]?;
-        let states = in_order(alloc, store(alloc)?, &mut links, &order)?;
-        assert!(rt; states.len() == 2 && links.len() == 2);
-        assert!(rt; links[1].written() == twice.as_slice());
-        assert!(rt; states[1].end == Some(ended(2)));
-        if first {
-            assert!(rt; links[0].written() == twice.as_slice());
-            assert!(rt; states[0].end == Some(ended(2)));
-        } else {
-            assert!(rt; links[0].written().is_empty());
-            let untouched = LinkState {
-                progress: 0,
-                end: None,
-            };
-            assert!(rt; states[0] == untouched);
-        }
-    }
-    Ok(())
 }
 
 // A film of one sample that bears a number.
