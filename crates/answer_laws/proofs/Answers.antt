@@ -1,5 +1,5 @@
 -- What a leaf and a path are answered with.
-use Rattle.std.proofs.Common.{◌≡◌, ℕ, ◌%◌, Bool, List, length, take_while, None, Result, Ok, Err, refl, arith}
+use Rattle.std.proofs.Common.{◌≡◌, ℕ, ◌%◌, List, length, take_while, None, Result, Ok, Err, refl, arith}
 use Rattle.vod_types.specs.declared.paths.Ask.{Ask}
 use Rattle.vod_types.specs.declared.paths.Leaf.{Leaf}
 use Rattle.vod_types.specs.declared.paths.Leaf.TheVariants.{Master, Mpd, Index, Init, Segment, Iframes, Iframe, Clip}
@@ -21,7 +21,7 @@ use Rattle.answer_laws.proofs.Clips.{clip_may, whole_may}
 use Rattle.answer_laws.proofs.Lists.{periods_may, shown_may}
 use Rattle.answer_laws.proofs.Mappings.{asked_timeline_may, asking_may, init_piece_may}
 use Rattle.answer_laws.proofs.Segments.{checked_may, iframes_may, listed_may, lone_iframe_may, segment_may}
-use Rattle.answer_laws.proofs.Steps.{May, then_may, after_may, ok_or_may, unless_may, some_may}
+use Rattle.answer_laws.proofs.Steps.{May, then_may, ok_or_may, some_may}
 
 -- ---- bodies
 
@@ -107,13 +107,13 @@ pub ask_answered : (o : Setup) (ask : Ask) → IsLeafAnswer ask.leaf (ask_answer
 unfolding ask_answer
 ask_answered o ask = answered_by ask.leaf _ _ (asking_may o ask) (λ a. whole_answered o a ask.leaf)
 
-pub readable_may : (built : Ask → Bool) (path : List ℕ) → May (readable built path)
+pub readable_may : (path : List ℕ) → May (readable path)
 unfolding readable_as
-readable_may built path = search (then_may, ok_or_may, after_may, unless_may, some_may)
+readable_may path = search (ok_or_may, some_may)
 
 pub path_answered : AnswersOfPaths
 unfolding answer
-path_answered built o path = by_ask (readable built path) (readable_may built path)
+path_answered o path = by_ask (readable path) (readable_may path)
   where
     by_ask : (r : Result Ask Refusal) → May r → (leaf : Leaf) × IsLeafAnswer leaf (r >>= ask_answer o None)
     by_ask (Ok ask) may = (ask.leaf, ask_answered o ask)

@@ -1,6 +1,5 @@
 -- What every answer keeps; this project's own.
-use Rattle.std.specs.Prelude.{◌≡◌, ℕ, ◌%◌, Bool, List, length, None, MatchResult}
-use Rattle.vod_types.specs.declared.paths.Ask.{Ask}
+use Rattle.std.specs.Prelude.{◌≡◌, ℕ, ◌%◌, List, length, None, MatchResult}
 use Rattle.vod_types.specs.declared.paths.Leaf.{Leaf}
 use Rattle.list_model.specs.Reply.{Answer, Body, leaf_body}
 use Rattle.origin_model.specs.Answers.{answer}
@@ -16,6 +15,6 @@ pub record IsLeafBody (leaf : Leaf) (body : Body) : Type 0 where
 abbrev pub IsLeafAnswer : Leaf → Answer → Type 0
 IsLeafAnswer leaf answer = MatchResult answer (IsLeafBody leaf) IsPathRefusal
 
--- of each path of a form that is built
+-- of each path
 abbrev pub AnswersOfPaths : Type 0
-AnswersOfPaths = (built : Ask → Bool) (o : Setup) (path : List ℕ) → (leaf : Leaf) × IsLeafAnswer leaf (answer built o path None)
+AnswersOfPaths = (o : Setup) (path : List ℕ) → (leaf : Leaf) × IsLeafAnswer leaf (answer o path None)
