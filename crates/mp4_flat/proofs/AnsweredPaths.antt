@@ -22,7 +22,7 @@ use Rattle.origin_model.specs.Reads as reads
 use Rattle.origin_model.specs.Reads.{ask_reads, further_names, looks_of, mapping_reads_by, path_reads, sample_reads, turn_names, turn_pieces, turns}
 use Rattle.origin_model.specs.Requests.{Setup, Asking, asking_of, target_names}
 use Rattle.origin_model.proofs.Askings.{ask_in-range}
-use Rattle.mp4_flat.specs.Built.{built_paths, is_built_leaf, IsBuiltAsk}
+use Rattle.mp4_flat.specs.Built.{is_built_leaf, IsBuiltAsk}
 use Rattle.vod_source.specs.Calls.{AnswersUnlessFailed, LogsReads, Came}
 use Rattle.mp4_flat.specs.Flat.{IsAskAnswer, IsFlatAnswer, IsLeafAnswer, flat_seen, leaf_reads}
 use Rattle.flat_segments.specs.Bodies.{flat_shown}
@@ -95,25 +95,25 @@ module _ (o : Setup) (ask : Ask) where
 -- ---- what a path asks for
 
 module _ (path : List ℕ) where
-  readable_none : ask_of path ≡ None → readable built_paths path ≡ Err refusals.BadPath
+  readable_none : ask_of path ≡ None → readable path ≡ Err refusals.BadPath
   unfolding readable_as
   readable_none e = rw e refl
 
   -- the path isn't in the grammar
-  pub read_refused : (r : Refusal) → (r ≢ NoMemory → ok_or (ask_of path) refusals.BadPath ≡ Err r) → r ≢ NoMemory → readable built_paths path ≡ Err r
+  pub read_refused : (r : Refusal) → (r ≢ NoMemory → ok_or (ask_of path) refusals.BadPath ≡ Err r) → r ≢ NoMemory → readable path ≡ Err r
   read_refused r h known_memory = by_ask (ask_of path) refl (h known_memory)
     where
-      by_ask : (found : Option Ask) → ask_of path ≡ found → ok_or found refusals.BadPath ≡ Err r → readable built_paths path ≡ Err r
+      by_ask : (found : Option Ask) → ask_of path ≡ found → ok_or found refusals.BadPath ≡ Err r → readable path ≡ Err r
       by_ask None e is = readable_none e ∙ cc
       by_ask (Some ask) e is = absurd cc
 
   -- its form isn't built
-  pub read_unbuilt : (ask : Ask) (r : Refusal) → ok_or (ask_of path) refusals.BadPath ≡ Ok ask → false ≡ built_paths ask → (r ≢ NoMemory → r ≡ refusals.Unsupported (codes "form")) → r ≢ NoMemory → readable built_paths path ≡ Err r
+  pub read_unbuilt : (ask : Ask) (r : Refusal) → ok_or (ask_of path) refusals.BadPath ≡ Ok ask → false ≡ built_paths ask → (r ≢ NoMemory → r ≡ refusals.Unsupported (codes "form")) → r ≢ NoMemory → readable path ≡ Err r
   unfolding readable_as
   read_unbuilt ask r read b h known_memory = rw (ok_or_ok (ask_of path) refusals.BadPath ask read, sym b) (ap Err (sym (h known_memory)))
 
   -- its form is built
-  pub read_built : (ask : Ask) → ok_or (ask_of path) refusals.BadPath ≡ Ok ask → true ≡ built_paths ask → readable built_paths path ≡ Ok ask
+  pub read_built : (ask : Ask) → ok_or (ask_of path) refusals.BadPath ≡ Ok ask → true ≡ built_paths ask → readable path ≡ Ok ask
   unfolding readable_as
   read_built ask read b = rw (ok_or_ok (ask_of path) refusals.BadPath ask read, sym b) refl
 
@@ -128,17 +128,17 @@ module _ (path : List ℕ) where
 
 module _ (o : Setup) (path : List ℕ) where
   -- what is asked for isn't read, and nothing was read for it
-  pub path_refused : (r : Refusal) (log : Option (List Read)) → (r ≢ NoMemory → readable built_paths path ≡ Err r) → IsFlatAnswer built_paths o path (Err r) log log
+  pub path_refused : (r : Refusal) (log : Option (List Read)) → (r ≢ NoMemory → readable path ≡ Err r) → IsFlatAnswer o path (Err r) log log
   unfolding answer path_reads
   path_refused r log h = record {
     answered = λ known_memory known_store. ap (λ (x : Result Ask Refusal). flat_seen (x >>= ask_answer o None)) (h known_memory);
-    reads = path_reads built_paths o [] true [] path None;
+    reads = path_reads every_leaf o [] true [] path None;
     reads_are = record { taken = []; are = refl };
-    logged = logs_unmade r (path_reads built_paths o [] true [] path None) log log refl (λ known_memory known_store. ap (λ (x : Result Ask Refusal). reads.if_readable x [] (ask_reads o [] true [] None)) (h known_memory));
+    logged = logs_unmade r (path_reads every_leaf o [] true [] path None) log log refl (λ known_memory known_store. ap (λ (x : Result Ask Refusal). reads.if_readable x [] (ask_reads o [] true [] None)) (h known_memory));
   }
 
   -- its form is built
-  pub path_answered : (ask : Ask) (r : Result FlatBody Refusal) (log log_now : Option (List Read)) → readable built_paths path ≡ Ok ask → IsAskAnswer o ask r log log_now → IsFlatAnswer built_paths o path r log log_now
+  pub path_answered : (ask : Ask) (r : Result FlatBody Refusal) (log log_now : Option (List Read)) → readable path ≡ Ok ask → IsAskAnswer o ask r log log_now → IsFlatAnswer o path r log log_now
   unfolding answer path_reads
   path_answered ask r log log_now is came = record {
     answered = subst (AnswersUnlessFailed flat_shown r) (sym (ap (λ (x : Result Ask Refusal). flat_seen (x >>= ask_answer o None)) is)) came.answered;
@@ -148,8 +148,8 @@ module _ (o : Setup) (path : List ℕ) where
   }
 
 -- a path that is read isn't refused
-pub read_is_ok : (path : List ℕ) (ask : Ask) → readable built_paths path ≡ Ok ask → IsErr (readable built_paths path) → ⊥
-read_is_ok path ask is err = by_readable (readable built_paths path) is err
+pub read_is_ok : (path : List ℕ) (ask : Ask) → readable path ≡ Ok ask → IsErr (readable path) → ⊥
+read_is_ok path ask is err = by_readable (readable path) is err
   where
     by_readable : (r : Result Ask Refusal) → r ≡ Ok ask → IsErr r → ⊥
     by_readable (Ok found) e err = absurd cc

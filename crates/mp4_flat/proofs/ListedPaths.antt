@@ -24,7 +24,7 @@ use Rattle.origin_model.specs.Requests.{Setup, Asking, asking_of}
 use Rattle.vod_types.specs.declared.segments.Listed.{Listed}
 use Rattle.vod_source.specs.Calls.{AnswersUnlessFailed, LogsReads, Came}
 use Rattle.segment_model.specs.Listing.{listed_view}
-use Rattle.mp4_flat.specs.Listings.{AreListed, ask_rows, every_path, index_turns}
+use Rattle.mp4_flat.specs.Listings.{AreListed, ask_rows, index_turns}
 use Rattle.vod_source.proofs.CallLemmas.{logs_then, logs_unmade}
 use Rattle.mp4_flat.proofs.Leaves.{ended, no_turns}
 
@@ -84,41 +84,41 @@ module _ {X : Type 0} (items : X → List Listed) (o : Setup) (path : List ℕ) 
   abbrev seen : Result X Refusal → Result (List Listed) Refusal
   seen result = result_map_both items (λ refusal. refusal) result
 
-  readable_none : ask_of path ≡ None → readable (for_rows every_path) path ≡ Err refusals.BadPath
+  readable_none : ask_of path ≡ None → readable_as is_index path ≡ Err refusals.BadPath
   unfolding readable_as
   readable_none e = rw e refl
 
-  rows_none : ask_of path ≡ None → path_rows every_path o path ≡ Err refusals.BadPath
+  rows_none : ask_of path ≡ None → path_rows o path ≡ Err refusals.BadPath
   unfolding path_rows readable_as
   rows_none e = rw e refl
 
-  rows_other : (ask : Ask) → ask_of path ≡ Some ask → is_index ask.leaf ≡ false → path_rows every_path o path ≡ Err refusals.BadPath
+  rows_other : (ask : Ask) → ask_of path ≡ Some ask → is_index ask.leaf ≡ false → path_rows o path ≡ Err refusals.BadPath
   unfolding path_rows readable_as
   rows_other ask e b = rw (e, b) refl
 
-  readable_index : (ask : Ask) → ask_of path ≡ Some ask → is_index ask.leaf ≡ true → readable (for_rows every_path) path ≡ Ok ask
+  readable_index : (ask : Ask) → ask_of path ≡ Some ask → is_index ask.leaf ≡ true → readable_as is_index path ≡ Ok ask
   unfolding readable_as
   readable_index ask e b = rw (e, b) refl
 
-  rows_index : (ask : Ask) (sequence : ℕ) (asked : Asked) → ask_of path ≡ Some ask → ask.leaf ≡ Index sequence asked → path_rows every_path o path ≡ ask_rows o ask sequence asked
+  rows_index : (ask : Ask) (sequence : ℕ) (asked : Asked) → ask_of path ≡ Some ask → ask.leaf ≡ Index sequence asked → path_rows o path ≡ ask_rows o ask sequence asked
   unfolding path_rows readable_as
   rows_index ask sequence asked e leaf =
       rw (e, leaf) refl
 
   abbrev reads_due : List Read
-  reads_due = path_reads (for_rows every_path) o [] false [] path None
+  reads_due = path_reads is_index o [] false [] path None
 
   -- of a call that came to what is due
-  listed_by : (result : Result X Refusal) (log log_now : Option (List Read)) → Came view result (path_rows every_path o path) reads_due log log_now → AreListed o path (seen result) log log_now
+  listed_by : (result : Result X Refusal) (log log_now : Option (List Read)) → Came view result (path_rows o path) reads_due log log_now → AreListed o path (seen result) log log_now
   listed_by (Ok x) log log_now came = record { answered = came.answered; reads = reads_due; reads_are = record { taken = []; are = refl }; logged = came.logged }
   listed_by (Err e) log log_now came = record { answered = came.answered; reads = reads_due; reads_are = record { taken = []; are = refl }; logged = came.logged }
 
-  reads_none : (e : Refusal) → readable (for_rows every_path) path ≡ Err e → reads_due ≡ []
+  reads_none : (e : Refusal) → readable_as is_index path ≡ Err e → reads_due ≡ []
   unfolding path_reads
   reads_none e is = rw is refl
 
   -- nothing was read
-  unread : (e : Refusal) (log : Option (List Read)) → (e ≢ NoMemory → path_rows every_path o path ≡ Err e) → (e ≢ NoMemory → reads_due ≡ []) → AreListed o path (seen (Err e)) log log
+  unread : (e : Refusal) (log : Option (List Read)) → (e ≢ NoMemory → path_rows o path ≡ Err e) → (e ≢ NoMemory → reads_due ≡ []) → AreListed o path (seen (Err e)) log log
   unread e log due none =
       listed_by (Err e) log log (record { answered = λ known_memory known_store. due known_memory; logged = logs_unmade e reads_due log log refl (λ known_memory known_store. none known_memory) })
 
@@ -126,11 +126,11 @@ module _ {X : Type 0} (items : X → List Listed) (o : Setup) (path : List ℕ) 
   pub path_refused : (e : Refusal) (log : Option (List Read)) → (e ≢ NoMemory → ok_or (ask_of path) refusals.BadPath ≡ Err e) → AreListed o path (seen (Err e)) log log
   path_refused e log h = unread e log (λ known_memory. (by_ask (ask_of path) refl (h known_memory)).0) (λ known_memory. (by_ask (ask_of path) refl (h known_memory)).1)
     where
-      by_ask : (found : Option Ask) → ask_of path ≡ found → ok_or found refusals.BadPath ≡ Err e → (path_rows every_path o path ≡ Err e) × (reads_due ≡ [])
+      by_ask : (found : Option Ask) → ask_of path ≡ found → ok_or found refusals.BadPath ≡ Err e → (path_rows o path ≡ Err e) × (reads_due ≡ [])
       by_ask None is refused = (rows_none is ∙ cc, reads_none refusals.BadPath (readable_none is))
       by_ask (Some ask) is refused = absurd cc
 
-  readable_other : (ask : Ask) → ask_of path ≡ Some ask → is_index ask.leaf ≡ false → (e : Refusal) × (readable (for_rows every_path) path ≡ Err e)
+  readable_other : (ask : Ask) → ask_of path ≡ Some ask → is_index ask.leaf ≡ false → (e : Refusal) × (readable_as is_index path ≡ Err e)
   unfolding readable_as
   readable_other ask e b = (refusals.Unsupported (codes "form"), rw (e, b) refl)
 
@@ -141,7 +141,7 @@ module _ {X : Type 0} (items : X → List Listed) (o : Setup) (path : List ℕ) 
       let none = readable_other ask is other in
       unread refusals.BadPath log (λ known_memory. rows_other ask is other) (λ known_memory. reads_none none.0 none.1)
 
-  reads_index : (ask : Ask) → readable (for_rows every_path) path ≡ Ok ask → reads_due ≡ ask_reads o [] false [] None ask
+  reads_index : (ask : Ask) → readable_as is_index path ≡ Ok ask → reads_due ≡ ask_reads o [] false [] None ask
   unfolding path_reads
   reads_index ask is = rw is refl
 
@@ -156,13 +156,13 @@ module _ {X : Type 0} (items : X → List Listed) (o : Setup) (path : List ℕ) 
       })
 
   -- a path of a media playlist is read
-  readable_rows : (ask : Ask) → ask_of path ≡ Some ask → is_index ask.leaf ≡ true → readable_as is_index every_path path ≡ Ok ask
+  readable_rows : (ask : Ask) → ask_of path ≡ Some ask → is_index ask.leaf ≡ true → readable_as is_index path ≡ Ok ask
   unfolding readable_as
   readable_rows ask e b = rw (e, b) refl
 
-  pub index_is_readable : (ask : Ask) (sequence : ℕ) (asked : Asked) → ok_or (ask_of path) refusals.BadPath ≡ Ok ask → ask.leaf ≡ Index sequence asked → IsErr (readable_as is_index every_path path) → ⊥
+  pub index_is_readable : (ask : Ask) (sequence : ℕ) (asked : Asked) → ok_or (ask_of path) refusals.BadPath ≡ Ok ask → ask.leaf ≡ Index sequence asked → IsErr (readable_as is_index path) → ⊥
   index_is_readable ask sequence asked read leaf err =
-      by_readable (readable_as is_index every_path path) (readable_rows ask (ok_or_ok (ask_of path) refusals.BadPath ask read) (ap is_index leaf)) err
+      by_readable (readable_as is_index path) (readable_rows ask (ok_or_ok (ask_of path) refusals.BadPath ask read) (ap is_index leaf)) err
     where
       by_readable : (r : Result Ask Refusal) → r ≡ Ok ask → IsErr r → ⊥
       by_readable (Ok found) e err = absurd cc

@@ -22,7 +22,6 @@ use Rattle.origin_model.specs.Answers.{leaf_answer, readable_as}
 use Rattle.origin_model.specs.Lists.{periods, sequence_numbers}
 use Rattle.origin_model.specs.Packaging.{is_packed, packed_ask, packed_asking, packed_by, packed_leaves, packed_path}
 use Rattle.origin_model.specs.Requests.{Setup, Asking, asking_of}
-use Rattle.mp4_flat.specs.Listings.{every_path}
 use Rattle.mp4_flat.specs.Packed.{HasFailed, IsPacked, IsPackedAs, described_leaves, is_description, packed_asked}
 use Rattle.mp4_flat.specs.declared.entries.PackEnd.{PackEnd}
 use Rattle.mp4_flat.specs.declared.entries.PackEnd.TheVariants.{Whole, Refused, SinkFailed}
@@ -70,7 +69,7 @@ module _ (o : Setup) (ask : Ask) where
 
 module _ (path : List ℕ) where
   abbrev read : Result Ask Refusal
-  read = readable_as is_packed every_path path
+  read = readable_as is_packed path
 
   read_none : ask_of path ≡ None → read ≡ Err refusals.BadPath
   unfolding readable_as
@@ -85,25 +84,25 @@ module _ (path : List ℕ) where
   read_packed ask e b = rw (e, b) refl
 
   module _ (o : Setup) where
-    by_read : (r : Result Ask Refusal) → read ≡ r → packed_path every_path o path ≡ packed_ask o r
+    by_read : (r : Result Ask Refusal) → read ≡ r → packed_path o path ≡ packed_ask o r
     unfolding packed_path
     by_read r e = ap (packed_ask o) e
 
     -- the path isn't in the grammar
-    pub path_refused : (r : Refusal) (told : Option (List ℕ)) → (r ≢ NoMemory → ok_or (ask_of path) refusals.BadPath ≡ Err r) → IsPacked every_path o path (Refused r) told told
-    path_refused r told h = packed_none (packed_path every_path o path) r told (λ memory store. by_read (Err r) (by_ask (ask_of path) refl (h memory)))
+    pub path_refused : (r : Refusal) (told : Option (List ℕ)) → (r ≢ NoMemory → ok_or (ask_of path) refusals.BadPath ≡ Err r) → IsPacked o path (Refused r) told told
+    path_refused r told h = packed_none (packed_path o path) r told (λ memory store. by_read (Err r) (by_ask (ask_of path) refl (h memory)))
       where
         by_ask : (found : Option Ask) → ask_of path ≡ found → ok_or found refusals.BadPath ≡ Err r → read ≡ Err r
         by_ask None e is = read_none e ∙ cc
         by_ask (Some ask) e is = absurd cc
 
     -- it is of another kind
-    pub other_refused : (ask : Ask) (told : Option (List ℕ)) → ok_or (ask_of path) refusals.BadPath ≡ Ok ask → is_packed ask.leaf ≡ false → IsPacked every_path o path (Refused refusals.BadPath) told told
+    pub other_refused : (ask : Ask) (told : Option (List ℕ)) → ok_or (ask_of path) refusals.BadPath ≡ Ok ask → is_packed ask.leaf ≡ false → IsPacked o path (Refused refusals.BadPath) told told
     other_refused ask told found other =
-        packed_none (packed_path every_path o path) refusals.BadPath told (λ memory store. by_read (Err refusals.BadPath) (read_other ask (ok_or_ok (ask_of path) refusals.BadPath ask found) other))
+        packed_none (packed_path o path) refusals.BadPath told (λ memory store. by_read (Err refusals.BadPath) (read_other ask (ok_or_ok (ask_of path) refusals.BadPath ask found) other))
 
     pub path_packed : (ask : Ask) (end : PackEnd) (told now : Option (List ℕ)) → ok_or (ask_of path) refusals.BadPath ≡ Ok ask → is_packed ask.leaf ≡ true
-        → IsPackedAs (packed_asked o ask) end told now → IsPacked every_path o path end told now
+        → IsPackedAs (packed_asked o ask) end told now → IsPacked o path end told now
     path_packed ask end told now found leaf put =
         subst (λ (due : List ℕ × Option Refusal). IsPackedAs due end told now)
         (sym (by_read (Ok ask) (read_packed ask (ok_or_ok (ask_of path) refusals.BadPath ask found) leaf))) put

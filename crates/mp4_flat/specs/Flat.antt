@@ -24,7 +24,7 @@ flat_seen due = result_map_both bytes_and_cut (λ r. r) due
 
 -- the bytes and the cut are those of the answer of the path, and these reads were made for it
 pub record IsFlatAnswer (built : Ask → Bool) (o : Setup) (path : List ℕ) (result : Result FlatBody Refusal) (log log_now : Option (List Read)) : Type 0 where
-  pub answered : AnswersUnlessFailed flat_shown result (flat_seen (answer built o path None))
+  pub answered : AnswersUnlessFailed flat_shown result (flat_seen (answer o path None))
   pub reads : List Read
   pub reads_are : AreReads built o [] true path None reads
   pub logged : LogsReads result reads log log_now

@@ -20,9 +20,9 @@ every_path ask = true
 
 -- the listed rows of a path, or the refusal of its playlist, and these reads were made for them
 pub record AreListed (o : Setup) (path : List ℕ) (result : Result (List Listed) Refusal) (log log_now : Option (List Read)) : Type 0 where
-  pub answered : AnswersUnlessFailed (map listed_view) result (path_rows every_path o path)
+  pub answered : AnswersUnlessFailed (map listed_view) result (path_rows o path)
   pub reads : List Read
-  pub reads_are : AreReads (for_rows every_path) o [] false path None reads
+  pub reads_are : AreReads is_index o [] false path None reads
   pub logged : LogsReads result reads log log_now
 
 -- the reads of the movies for a media playlist of what a request is about

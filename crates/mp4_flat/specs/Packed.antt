@@ -106,4 +106,4 @@ packed_asked o ask = packed_asking o ask (asking_of o ask)
 
 -- that of a path
 abbrev pub IsPacked : (Ask → Bool) → Setup → List ℕ → PackEnd → Option (List ℕ) → Option (List ℕ) → Type 0
-IsPacked built o path end before now = IsPackedAs (packed_path built o path) end before now
+IsPacked o path end before now = IsPackedAs (packed_path o path) end before now

@@ -15,7 +15,7 @@ ghost use Rattle.vod_source.specs.Calls.{Came};
 ghost use Rattle.segment_model.specs.Listing.{listed_view};
 ghost use Rattle.flat_lists.specs.Listings.{HasPart};
 ghost use Rattle.answer_laws.specs.Refusals.{IsPathRefusal};
-ghost use Rattle.mp4_flat.specs.Listings.{AreListed, ask_rows as ask_rows_of, every_path, index_turns};
+ghost use Rattle.mp4_flat.specs.Listings.{AreListed, ask_rows as ask_rows_of, index_turns};
 
 use crate::sequence::SequenceCut;
 use flat_lists::{Asking, asking_of, timeline_rows};
@@ -38,7 +38,7 @@ pub fn listed<S: Store>(
         AreListed (setup_of settings.now root.now known) path.now (result_map_both (λ rows. rows.items) (λ refusal. refusal) result)
         (S.log files.old) (S.log files.new)) }
     // A path out of the grammar or of another kind asks nothing of the store.
-    ensures unread { IsErr (readable_as is_index every_path path.now) → files.new ≡ files.old }
+    ensures unread { IsErr (readable_as is_index path.now) → files.new ≡ files.old }
     ensures content { S.content files.new ≡ S.content files.old }
     ensures later { S.faults files.old ≤ S.faults files.new }
     ensures store_failed { IsErrOf result StoreFailed → Rose (S.faults files.old) (S.faults files.new) }

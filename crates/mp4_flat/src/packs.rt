@@ -11,7 +11,6 @@ ghost use Rattle.origin_model.specs.Packaging.{is_packed as is_packed_of, packed
 ghost use Rattle.origin_model.specs.Requests.{target_names};
 ghost use Rattle.flat_lists.specs.Asked.{asking_view, setup_of};
 ghost use Rattle.mp4_flat.specs.declared.entries.PackEnd.TheVariants as ends;
-ghost use Rattle.mp4_flat.specs.Listings.{every_path};
 ghost use Rattle.mp4_flat.specs.Packed.{HasFailed, IsName, IsPacked, IsPackedAs, is_description as is_description_of, packed_asked};
 
 use crate::dash_names::dash_names;
@@ -39,10 +38,10 @@ pub fn pack<S: Store, K: Sink>(
     out: &mut K,
 ) -> PackEnd
     ensures told { IfSome (S.content files.old) (λ known.
-        IsPacked every_path (setup_of settings.now root.now known) path.now result (K.written out.old) (K.written out.new)) }
+        IsPacked (setup_of settings.now root.now known) path.now result (K.written out.old) (K.written out.new)) }
     // A path out of the grammar or of another kind asks nothing of the store, and puts nothing.
-    ensures unread { IsErr (readable_as is_packed_of every_path path.now) → files.new ≡ files.old }
-    ensures unused { IsErr (readable_as is_packed_of every_path path.now) → out.new ≡ out.old }
+    ensures unread { IsErr (readable_as is_packed_of path.now) → files.new ≡ files.old }
+    ensures unused { IsErr (readable_as is_packed_of path.now) → out.new ≡ out.old }
     ensures content { S.content files.new ≡ S.content files.old }
     ensures kept { K.kept out.new ≡ K.kept out.old }
     ensures later { S.faults files.old ≤ S.faults files.new }

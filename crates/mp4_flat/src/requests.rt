@@ -8,7 +8,7 @@ ghost use Rattle.origin_model.specs.Answers.{readable};
 ghost use Rattle.answer_laws.specs.Refusals.{IsPathRefusal};
 ghost use Rattle.flat_lists.specs.Asked.{setup_of};
 ghost use Rattle.flat_segments.specs.Bodies.{IsInPackets};
-ghost use Rattle.mp4_flat.specs.Built.{built_paths, is_built_leaf, IsBuiltAsk};
+ghost use Rattle.mp4_flat.specs.Built.{is_built_leaf, IsBuiltAsk};
 ghost use Rattle.mp4_flat.specs.Flat.{is_stream, IsFlatAnswer, IsAskAnswer};
 
 use crate::answers::{leaf_answer, unbuilt};
@@ -32,10 +32,10 @@ pub fn answer<S: Store>(
     path: &[u8],
 ) -> Result<FlatBody, Refusal>
     ensures told { IfSome (S.content files.old) (λ known.
-        IsFlatAnswer built_paths (record { settings = settings.now; root = root.now; files = known }) path.now result
+        IsFlatAnswer (record { settings = settings.now; root = root.now; files = known }) path.now result
         (S.log files.old) (S.log files.new)) }
     // A form that is refused asks nothing of the store.
-    ensures unbuilt { IsErr (readable built_paths path.now) → files.new ≡ files.old }
+    ensures unbuilt { IsErr (readable path.now) → files.new ≡ files.old }
     ensures content { S.content files.new ≡ S.content files.old }
     ensures later { S.faults files.old ≤ S.faults files.new }
     ensures store_failed { IsErrOf result StoreFailed → Rose (S.faults files.old) (S.faults files.new) }
@@ -49,7 +49,7 @@ pub fn answer<S: Store>(
 /// What a path asks for, where its form is built. It is refused as `BadPath` where it isn't in the grammar, and a form that
 /// isn't built yet as `Unsupported`, name `form`.
 pub fn built_ask(alloc: Global, path: &[u8]) -> Result<Ask, Refusal>
-    ensures answers { Answers (λ ask. ask) result (readable built_paths path.now) }
+    ensures answers { Answers (λ ask. ask) result (readable path.now) }
     ensures built { IfOk result IsBuiltAsk }
     ensures none_failed { IfErr result (λ refusal. refusal ≢ StoreFailed) }
     ensures refused { IfErr result IsPathRefusal }

@@ -56,13 +56,13 @@ in_front due door_failed reads log ends e = absurd ends
 module _ (built : Ask → Bool) (o : Setup) (given path : List ℕ) (outcome : Outcome) (log : List Read) where
   -- the refusal of the answer that is due in the end
   abbrev last : Option Refusal
-  last = (due_answer (answer built o path None)).1
+  last = (due_answer (answer o path None)).1
 
-  pub logged_end : (answered : Result FlatBody Refusal) → given ≡ path → IsFlatAnswer built o given answered (Some []) (Some log)
-      → IsEnd answered outcome → IsLogged built o path outcome log
+  pub logged_end : (answered : Result FlatBody Refusal) → given ≡ path → IsFlatAnswer o given answered (Some []) (Some log)
+      → IsEnd answered outcome → IsLogged o path outcome log
   logged_end (Ok body) same a ends =
-      let b = subst (λ p. IsFlatAnswer built o p (Ok body) (Some []) (Some log)) same a in
-      let ends_so = subst (λ due. EndsWith due outcome) (sym (cut_seen (answer built o path None) body.bytes.items body.cut b.answered)) ends in
+      let b = subst (λ p. IsFlatAnswer o p (Ok body) (Some []) (Some log)) same a in
+      let ends_so = subst (λ due. EndsWith due outcome) (sym (cut_seen (answer o path None) body.bytes.items body.cut b.answered)) ends in
       record {
         ends = ends_so;
         reads = b.reads;
@@ -70,20 +70,20 @@ module _ (built : Ask → Bool) (o : Setup) (given path : List ℕ) (outcome : O
         logged = gained_all ([], last) outcome (Some []) (Some []) b.reads (Some []) (Some log) ends_so b.logged;
       }
   logged_end (Err r) same a ends =
-      let b = subst (λ p. IsFlatAnswer built o p (Err r) (Some []) (Some log)) same a in
+      let b = subst (λ p. IsFlatAnswer o p (Err r) (Some []) (Some log)) same a in
       let gained =
       gained_refused ([], last) b.reads (Some []) (Some []) (Some log) r
-      (λ known_memory known_store. ap (λ due. ([], (due_answer due).1)) (flat_refused (answer built o path None) r (b.answered known_memory known_store)))
+      (λ known_memory known_store. ap (λ due. ([], (due_answer due).1)) (flat_refused (answer o path None) r (b.answered known_memory known_store)))
       b.logged
       in
-      subst (λ told. IsLogged built o path told log) (sym ends) (record { ends = gained.0; reads = b.reads; reads_are = b.reads_are; logged = gained.1 })
+      subst (λ told. IsLogged o path told log) (sym ends) (record { ends = gained.0; reads = b.reads; reads_are = b.reads_are; logged = gained.1 })
 
   -- whatever it was, where memory ran out for the log
-  pub logged_memory : (answered : Result FlatBody Refusal) → given ≡ path → IsFlatAnswer built o given answered (Some []) (Some log)
-      → outcome ≡ no_memory → IsLogged built o path outcome log
+  pub logged_memory : (answered : Result FlatBody Refusal) → given ≡ path → IsFlatAnswer o given answered (Some []) (Some log)
+      → outcome ≡ no_memory → IsLogged o path outcome log
   logged_memory answered same a e =
-      let b = subst (λ p. IsFlatAnswer built o p answered (Some []) (Some log)) same a in
-      subst (λ told. IsLogged built o path told log) (sym e)
+      let b = subst (λ p. IsFlatAnswer o p answered (Some []) (Some log)) same a in
+      subst (λ told. IsLogged o path told log) (sym e)
       (record { ends = GrewByPrefix-same (Some []) (Some []) [] refl; reads = b.reads; reads_are = b.reads_are; logged = some_of answered b.reads b.logged })
     where
       some_of : (answered : Result FlatBody Refusal) (reads : List Read) → LogsReads answered reads (Some []) (Some log) → GrewByPrefix (Some []) (Some log) reads
@@ -94,17 +94,17 @@ module _ (built : Ask → Bool) (o : Setup) (given path : List ℕ) (outcome : O
 module _ {S : Type 0} (content : S → Option Files) (built : Ask → Bool) (o : Files → Setup) (given path : List ℕ) (outcome : Outcome) where
   abbrev Told : LoggedValue S → LoggedValue S → Result FlatBody Refusal → Type 0
   Told before now answered =
-      IfSome (content before.inner) (λ files. IsFlatAnswer built (o files) given answered (Some (reads_of before.names before.entries)) (Some (reads_of now.names now.entries)))
+      IfSome (content before.inner) (λ files. IsFlatAnswer (o files) given answered (Some (reads_of before.names before.entries)) (Some (reads_of now.names now.entries)))
 
   pub logged_from : (before now same : LoggedValue S) (store : S) (answered : Result FlatBody Refusal)
       → before ≡ record { inner = store; names = []; entries = []; refused = 0 } → Told before now answered → given ≡ path
       → IsEnd answered outcome ⊎ (outcome ≡ no_memory) → same ≡ now
-      → IfSome (content store) (λ files. IsLogged built (o files) path outcome (reads_of same.names same.entries))
+      → IfSome (content store) (λ files. IsLogged (o files) path outcome (reads_of same.names same.entries))
   logged_from before now same store answered fresh told given_is ends is =
-      subst (λ (l : LoggedValue S). IfSome (content store) (λ files. IsLogged built (o files) path outcome (reads_of l.names l.entries))) (sym is)
+      subst (λ (l : LoggedValue S). IfSome (content store) (λ files. IsLogged (o files) path outcome (reads_of l.names l.entries))) (sym is)
       (told_with_all (content store) _ _ (subst (λ (l : LoggedValue S). Told l now answered) fresh told) (λ files a. elim ends [
-        | inl end ↦ logged_end built (o files) given path outcome (reads_of now.names now.entries) answered given_is a end
-        | inr none ↦ logged_memory built (o files) given path outcome (reads_of now.names now.entries) answered given_is a none
+        | inl end ↦ logged_end (o files) given path outcome (reads_of now.names now.entries) answered given_is a end
+        | inr none ↦ logged_memory (o files) given path outcome (reads_of now.names now.entries) answered given_is a none
       ]))
 
 -- ---- the lines of a log
@@ -144,33 +144,33 @@ module _ (log : List Read) (out out_now : Option (List ℕ)) where
 
 -- of a request that was logged
 pub reads_written : (built : Ask → Bool) (o : Setup) (path : List ℕ) (ended outcome : Outcome) (log : List Read) (out out_now : Option (List ℕ))
-    → IsLogged built o path ended log → WritesReads log ended outcome out out_now → AreReadsWritten built o path outcome out out_now
-reads_written built o path ended outcome log out out_now is wrote =
-    record { reads = is.reads; reads_are = is.reads_are; wrote = wrote (due_answer (answer built o path None)).1 is.reads is.ends is.logged }
+    → IsLogged o path ended log → WritesReads log ended outcome out out_now → AreReadsWritten o path outcome out out_now
+reads_written o path ended outcome log out out_now is wrote =
+    record { reads = is.reads; reads_are = is.reads_are; wrote = wrote (due_answer (answer o path None)).1 is.reads is.ends is.logged }
 
 -- of one for which there was no memory
-pub reads_unmade : (built : Ask → Bool) (o : Setup) (path : List ℕ) (out : Option (List ℕ)) → AreReadsWritten built o path no_memory out out
-reads_unmade built o path out =
+pub reads_unmade : (built : Ask → Bool) (o : Setup) (path : List ℕ) (out : Option (List ℕ)) → AreReadsWritten o path no_memory out out
+reads_unmade o path out =
     let reads = path_reads built o [] true [] path None in
     record { reads = reads; reads_are = record { taken = []; are = refl }; wrote = GrewByPrefix-same out out (reads_text reads) refl }
 
 module _ (built : Ask → Bool) (files : Files) (q : Requested) where
   abbrev reads_due_of : Result Setup Refusal → List Read → List ℕ × Option Refusal
-  reads_due_of s reads = (reads_text reads, (due_answer (s >>= λ o. answer built o q.path None)).1)
+  reads_due_of s reads = (reads_text reads, (due_answer (s >>= λ o. answer o q.path None)).1)
 
-  reads_due-is : (reads : List Read) → reads_due built files q reads ≡ reads_due_of (run_setup files q) reads
+  reads_due-is : (reads : List Read) → reads_due files q reads ≡ reads_due_of (run_setup files q) reads
   unfolding reads_due get_due
   reads_due-is reads = refl
 
   -- whose settings are refused
   pub reads_refused : (outcome : Outcome) (r : Refusal) (out : Option (List ℕ)) (log log_now : Option (List Read))
-      → outcome ≡ refused_outcome r → AreSettingsRead files q.settings (Err r) log log_now → IsReads built files q outcome out out
+      → outcome ≡ refused_outcome r → AreSettingsRead files q.settings (Err r) log log_now → IsReads files q outcome out out
   reads_refused outcome r out log log_now e a =
       let setup : (r ≢ NoMemory → r ≢ StoreFailed → run_setup files q ≡ Err r) = (λ known_memory known_store.
       ap (λ s. s >>= λ settings. Ok (setup_with files q settings)) (a.answered known_memory known_store))
       in
       let reads = some_reads built q true (run_setup files q) in
-      let due = reads_due built files q reads in
+      let due = reads_due files q reads in
       let wrote =
       by_refusal (λ r outcome. (r ≢ NoMemory → r ≢ StoreFailed → due ≡ ([], Some r)) → GainsDue due outcome out out)
       (λ refuses. GrewByPrefix-same out out due.0 refl)
@@ -187,8 +187,8 @@ module _ (built : Ask → Bool) (files : Files) (q : Requested) where
       }
 
   pub reads_with_settings : (s : Settled) (outcome : Outcome) (out out_now : Option (List ℕ)) (log log_mid : Option (List Read))
-      → AreSettingsRead files q.settings (Ok s) log log_mid → AreReadsWritten built (setup_with files q s) q.path outcome out out_now
-      → IsReads built files q outcome out out_now
+      → AreSettingsRead files q.settings (Ok s) log log_mid → AreReadsWritten (setup_with files q s) q.path outcome out out_now
+      → IsReads files q outcome out out_now
   reads_with_settings s outcome out out_now log log_mid a w =
       let setup : run_setup files q ≡ Ok (setup_with files q s) = ap (λ s. s >>= λ settings. Ok (setup_with files q settings)) a.answered in
       record {

@@ -10,8 +10,6 @@ use Rattle.vod_types.specs.declared.segments.Listed.{Listed}
 use Rattle.segment_model.specs.Listing.{ListedSegment, listed_view}
 use Rattle.list_model.specs.Command.{rehearsal_line}
 use Rattle.origin_model.specs.Answers.{answer, path_rows}
-use Rattle.mp4_flat.specs.Built.{built_paths}
-use Rattle.mp4_flat.specs.Listings.{every_path}
 use Rattle.vod_app.specs.Rehearsals.{answered_media, line_of, listed_samples, playlist_path, rehearsal_due, rehearsal_setup, IsFilm, TellsLine}
 use Rattle.vod_source.specs.Stored.{Files}
 use Rattle.vod_http.specs.Answered.{Rest, Advances}
@@ -54,41 +52,41 @@ sum_more f rows i d h =
 -- ---- lines
 
 module _ (n : ℕ) (files : Files) where
-  pub line_refused : (why : Refusal) → path_rows every_path (rehearsal_setup files) playlist_path ≡ Err why → rehearsal_due n (rehearsal_setup files) ≡ ([], Some why)
+  pub line_refused : (why : Refusal) → path_rows (rehearsal_setup files) playlist_path ≡ Err why → rehearsal_due n (rehearsal_setup files) ≡ ([], Some why)
   unfolding rehearsal_due
-  line_refused why e = ap (line_of n (answer built_paths (rehearsal_setup files))) e
+  line_refused why e = ap (line_of n (answer (rehearsal_setup files))) e
 
-  line_whole : (rows : List ListedSegment) (segments samples media : ℕ) → path_rows every_path (rehearsal_setup files) playlist_path ≡ Ok rows
-      → segments ≡ length rows → samples ≡ sum_by listed_samples rows → media ≡ sum_by (answered_media (answer built_paths (rehearsal_setup files))) rows
+  line_whole : (rows : List ListedSegment) (segments samples media : ℕ) → path_rows (rehearsal_setup files) playlist_path ≡ Ok rows
+      → segments ≡ length rows → samples ≡ sum_by listed_samples rows → media ≡ sum_by (answered_media (answer (rehearsal_setup files))) rows
       → rehearsal_due n (rehearsal_setup files) ≡ (rehearsal_line n segments samples media, None)
   unfolding rehearsal_due
   line_whole rows segments samples media e f g h =
-      ap (line_of n (answer built_paths (rehearsal_setup files))) e
+      ap (line_of n (answer (rehearsal_setup files))) e
       ∙ sym (ap (λ (k : ℕ). (rehearsal_line n k samples media, None)) f
       ∙ ap (λ (k : ℕ). (rehearsal_line n (length rows) k media, None)) g
       ∙ ap (λ (k : ℕ). (rehearsal_line n (length rows) (sum_by listed_samples rows) k, None)) h)
 
   -- the line that was made of listed rows
   made_of : {T : Type 0} (view : T → List ℕ) → IsFilm n files → (rows : List Listed) (seen : List Listed) (made : Result T Refusal)
-      → path_rows every_path (rehearsal_setup files) playlist_path ≡ Ok (map listed_view rows) → seen ≡ rows
-      → IfOk made (λ text. view text ≡ rehearsal_line n (length seen) (sum_by listed_samples (map listed_view seen)) (sum_by (answered_media (answer built_paths (rehearsal_setup files))) (map listed_view seen)))
+      → path_rows (rehearsal_setup files) playlist_path ≡ Ok (map listed_view rows) → seen ≡ rows
+      → IfOk made (λ text. view text ≡ rehearsal_line n (length seen) (sum_by listed_samples (map listed_view seen)) (sum_by (answered_media (answer (rehearsal_setup files))) (map listed_view seen)))
       → IfErr made (λ why. why ≡ NoMemory) → TellsLine view n made
   made_of view film rows seen (Ok text) are same line only = (
     files,
     film,
-    line_whole (map listed_view rows) (length seen) (sum_by listed_samples (map listed_view seen)) (sum_by (answered_media (answer built_paths (rehearsal_setup files))) (map listed_view seen)) are
+    line_whole (map listed_view rows) (length seen) (sum_by listed_samples (map listed_view seen)) (sum_by (answered_media (answer (rehearsal_setup files))) (map listed_view seen)) are
         (ap (λ (rs : List Listed). length rs) same ∙ sym (length-map rows listed_view))
         (ap (λ (rs : List Listed). sum_by listed_samples (map listed_view rs)) same)
-        (ap (λ (rs : List Listed). sum_by (answered_media (answer built_paths (rehearsal_setup files))) (map listed_view rs)) same)
+        (ap (λ (rs : List Listed). sum_by (answered_media (answer (rehearsal_setup files))) (map listed_view rs)) same)
         ∙ ap (λ (bytes : List ℕ). (bytes, None)) (sym line),
   )
   made_of view film rows seen (Err why) are same line only = λ memory store. absurd (memory only)
 
   pub line_made : {T : Type 0} (view : T → List ℕ) → IsFilm n files → (now : Files) → now ≡ files → (rows : List Listed) (seen : List Listed) (made : Result T Refusal)
-      → path_rows every_path (rehearsal_setup files) playlist_path ≡ Ok (map listed_view rows) → seen ≡ rows
-      → IfOk made (λ text. view text ≡ rehearsal_line n (length seen) (sum_by listed_samples (map listed_view seen)) (sum_by (answered_media (answer built_paths (rehearsal_setup now))) (map listed_view seen)))
+      → path_rows (rehearsal_setup files) playlist_path ≡ Ok (map listed_view rows) → seen ≡ rows
+      → IfOk made (λ text. view text ≡ rehearsal_line n (length seen) (sum_by listed_samples (map listed_view seen)) (sum_by (answered_media (answer (rehearsal_setup now))) (map listed_view seen)))
       → IfErr made (λ why. why ≡ NoMemory) → TellsLine view n made
   line_made view film now kept rows seen made are same line only =
       made_of view film rows seen made are same
-      (subst (λ (fs : Files). IfOk made (λ text. view text ≡ rehearsal_line n (length seen) (sum_by listed_samples (map listed_view seen)) (sum_by (answered_media (answer built_paths (rehearsal_setup fs))) (map listed_view seen)))) kept line)
+      (subst (λ (fs : Files). IfOk made (λ text. view text ≡ rehearsal_line n (length seen) (sum_by listed_samples (map listed_view seen)) (sum_by (answered_media (answer (rehearsal_setup fs))) (map listed_view seen)))) kept line)
       only

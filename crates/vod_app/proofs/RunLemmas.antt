@@ -17,7 +17,7 @@ use Rattle.vod_types.specs.declared.segments.Listed.{Listed}
 use Rattle.vod_source.specs.Calls.{LogsReads}
 use Rattle.mp4_flat.specs.Flat.{IsFlatAnswer, flat_seen}
 use Rattle.segment_model.specs.Listing.{listed_view}
-use Rattle.mp4_flat.specs.Listings.{AreListed, every_path}
+use Rattle.mp4_flat.specs.Listings.{AreListed}
 use Rattle.mp4_flat.specs.Packed.{IsPackedAs}
 use Rattle.mp4_flat.specs.declared.entries.PackEnd.{PackEnd}
 use Rattle.mp4_flat.specs.declared.entries.PackEnd.TheVariants.{Whole, Refused, SinkFailed}
@@ -88,25 +88,25 @@ module _ (due : Due) (reads : List Read) (out : Option (List ℕ)) (log log_now 
       ))
 
 -- a request that is refused
-pub written_refused : {due : Due} {built : Ask → Bool} {o : Setup} {with_body : Bool} {path : List ℕ} (reads : List Read) (r : Refusal) (outcome : Outcome)
+pub written_refused : {due : Due} {has_leaf : Leaf → Bool} {o : Setup} {with_body : Bool} {path : List ℕ} (reads : List Read) (r : Refusal) (outcome : Outcome)
     (out : Option (List ℕ)) (log log_now : Option (List Read)) → outcome ≡ refused_outcome r → (r ≢ NoMemory → r ≢ StoreFailed → due ≡ ([], Some r))
-    → AreReads built o [] with_body path None reads → LogsReads {X = List ℕ} (Err r) reads log log_now → IsWritten due built o with_body path outcome out out log log_now
-written_refused {due} {built} {o} {with_body} {path} reads r outcome out log log_now e refuses are logged =
+    → AreReads has_leaf o [] with_body path None reads → LogsReads {X = List ℕ} (Err r) reads log log_now → IsWritten due has_leaf o with_body path outcome out out log log_now
+written_refused {due} {has_leaf} {o} {with_body} {path} reads r outcome out log log_now e refuses are logged =
     let gained = gained_refused due reads out log log_now r refuses logged in
-    subst (λ told. IsWritten due built o with_body path told out out log log_now) (sym e)
+    subst (λ told. IsWritten due has_leaf o with_body path told out out log log_now) (sym e)
     (record { wrote = gained.0; reads = reads; reads_are = are; logged = gained.1 })
 
 -- ---- a whole run
 
 -- the reads that a request may make, whatever was refused before
-abbrev pub some_reads : (Ask → Bool) → Requested → Bool → Result Setup Refusal → List Read
-some_reads built q with_body (Ok o) = path_reads built o [] with_body [] q.path None
-some_reads built q with_body (Err r) = []
+abbrev pub some_reads : (Leaf → Bool) → Requested → Bool → Result Setup Refusal → List Read
+some_reads has_leaf q with_body (Ok o) = path_reads has_leaf o [] with_body [] q.path None
+some_reads has_leaf q with_body (Err r) = []
 
-pub are_some_reads : (built : Ask → Bool) (files : Files) (q : Requested) (with_body : Bool) (setup : Result Setup Refusal)
-    → AreRequestReads built files q with_body setup (some_reads built q with_body setup)
-are_some_reads built files q with_body (Ok o) = record { taken = []; are = refl }
-are_some_reads built files q with_body (Err r) = refl
+pub are_some_reads : (has_leaf : Leaf → Bool) (files : Files) (q : Requested) (with_body : Bool) (setup : Result Setup Refusal)
+    → AreRequestReads files q has_leaf with_body setup (some_reads has_leaf q with_body setup)
+are_some_reads has_leaf files q with_body (Ok o) = record { taken = []; are = refl }
+are_some_reads has_leaf files q with_body (Err r) = refl
 
 gained_more : (outcome : Outcome) (first second : List Read) (log log_mid log_now : Option (List Read)) → log_mid ≡ told_with log first
     → GainsReads second outcome log_mid log_now → GainsReads (first ++ second) outcome log log_now
@@ -119,43 +119,43 @@ gained_more usage first second log log_mid log_now e g = g
 gained_more door_failed first second log log_mid log_now e g = g
 
 -- what is due of a run with these settings, which writes nothing where they are refused
-module _ (due_of : Result Setup Refusal → Due) (built : Ask → Bool) (files : Files) (q : Requested) (with_body : Bool) where
+module _ (due_of : Result Setup Refusal → Due) (has_leaf : Leaf → Bool) (files : Files) (q : Requested) (with_body : Bool) where
   run_refused : ((r : Refusal) → due_of (Err r) ≡ ([], Some r)) → (r : Refusal) (outcome : Outcome) (out : Option (List ℕ)) (log log_now : Option (List Read))
       → outcome ≡ refused_outcome r → AreSettingsRead files q.settings (Err r) log log_now
-      → IsRun (due_of (run_setup files q)) built files q with_body outcome out out log log_now
+      → IsRun (due_of (run_setup files q)) has_leaf files q with_body outcome out out log log_now
   run_refused none r outcome out log log_now e a =
       let setup : (r ≢ NoMemory → r ≢ StoreFailed → run_setup files q ≡ Err r) = (λ known_memory known_store.
       ap (λ s. s >>= λ settings. Ok (setup_with files q settings)) (a.answered known_memory known_store))
       in
-      let request = some_reads built q with_body (run_setup files q) in
+      let request = some_reads has_leaf q with_body (run_setup files q) in
       let all_logged : (r ≢ NoMemory → r ≢ StoreFailed → log_now ≡ told_with log (settings_reads files q.settings ++ request)) = (λ known_memory known_store.
       a.logged.1 known_memory known_store
       ∙ ap (told_with log) (sym (append-nil (settings_reads files q.settings)))
-      ∙ ap (λ s. told_with log (settings_reads files q.settings ++ some_reads built q with_body s)) (sym (setup known_memory known_store)))
+      ∙ ap (λ s. told_with log (settings_reads files q.settings ++ some_reads has_leaf q with_body s)) (sym (setup known_memory known_store)))
       in
       let gained =
       gained_refused (due_of (run_setup files q)) (settings_reads files q.settings ++ request) out log log_now r
       (λ known_memory known_store. ap due_of (setup known_memory known_store) ∙ none r)
       (GrewByPrefix-more request a.logged.0, all_logged)
       in
-      subst (λ told. IsRun (due_of (run_setup files q)) built files q with_body told out out log log_now) (sym e)
+      subst (λ told. IsRun (due_of (run_setup files q)) has_leaf files q with_body told out out log log_now) (sym e)
       (record {
         wrote = gained.0;
         reads = settings_reads files q.settings ++ request;
-        reads_are = record { request = request; made = are_some_reads built files q with_body (run_setup files q); are = refl };
+        reads_are = record { request = request; made = are_some_reads has_leaf files q with_body (run_setup files q); are = refl };
         logged = gained.1;
       })
 
   run_with : (s : Settled) (outcome : Outcome) (out out_now : Option (List ℕ)) (log log_mid log_now : Option (List Read))
       → AreSettingsRead files q.settings (Ok s) log log_mid
-      → IsWritten (due_of (Ok (setup_with files q s))) built (setup_with files q s) with_body q.path outcome out out_now log_mid log_now
-      → IsRun (due_of (run_setup files q)) built files q with_body outcome out out_now log log_now
+      → IsWritten (due_of (Ok (setup_with files q s))) has_leaf (setup_with files q s) with_body q.path outcome out out_now log_mid log_now
+      → IsRun (due_of (run_setup files q)) has_leaf files q with_body outcome out out_now log log_now
   run_with s outcome out out_now log log_mid log_now a w =
       let setup : run_setup files q ≡ Ok (setup_with files q s) = ap (λ s. s >>= λ settings. Ok (setup_with files q settings)) a.answered in
       record {
         wrote = subst (λ s. GainsDue (due_of s) outcome out out_now) (sym setup) w.wrote;
         reads = settings_reads files q.settings ++ w.reads;
-        reads_are = record { request = w.reads; made = subst (λ s. AreRequestReads built files q with_body s w.reads) (sym setup) w.reads_are; are = refl };
+        reads_are = record { request = w.reads; made = subst (λ s. AreRequestReads files q has_leaf with_body s w.reads) (sym setup) w.reads_are; are = refl };
         logged = gained_more outcome (settings_reads files q.settings) w.reads log log_mid log_now a.logged w.logged;
       }
 
@@ -166,25 +166,25 @@ flat_refused (Ok body) r e = absurd cc
 flat_refused (Err other) r e = cc
 
 pub written_of : (built : Ask → Bool) (o : Setup) (given path : List ℕ) (outcome : Outcome) (r : Refusal) (out : Option (List ℕ)) (log log_now : Option (List Read))
-    → given ≡ path → outcome ≡ refused_outcome r → IsFlatAnswer built o given (Err r) log log_now → IsAnswerWritten built o path outcome out out log log_now
-written_of built o given path outcome r out log log_now same e a =
-    let b = subst (λ p. IsFlatAnswer built o p (Err r) log log_now) same a in
+    → given ≡ path → outcome ≡ refused_outcome r → IsFlatAnswer o given (Err r) log log_now → IsAnswerWritten o path outcome out out log log_now
+written_of o given path outcome r out log log_now same e a =
+    let b = subst (λ p. IsFlatAnswer o p (Err r) log log_now) same a in
     written_refused b.reads r outcome out log log_now e
-    (λ known_memory known_store. ap due_answer (flat_refused (answer built o path None) r (b.answered known_memory known_store))) b.reads_are b.logged
+    (λ known_memory known_store. ap due_answer (flat_refused (answer o path None) r (b.answered known_memory known_store))) b.reads_are b.logged
 
 module _ (built : Ask → Bool) (files : Files) (q : Requested) where
   pub got_of : (outcome : Outcome) (r : Refusal) (out : Option (List ℕ)) (log log_now : Option (List Read))
-      → outcome ≡ refused_outcome r → AreSettingsRead files q.settings (Err r) log log_now → IsGet built files q outcome out out log log_now
+      → outcome ≡ refused_outcome r → AreSettingsRead files q.settings (Err r) log log_now → IsGet files q outcome out out log log_now
   unfolding get_due
   got_of outcome r out log log_now e a =
-      run_refused (λ s. due_answer (s >>= λ o. answer built o q.path None)) built files q true (λ r. refl) r outcome out log log_now e a
+      run_refused (λ s. due_answer (s >>= λ o. answer o q.path None)) built files q true (λ r. refl) r outcome out log log_now e a
 
   pub got_with : (s : Settled) (outcome : Outcome) (out out_now : Option (List ℕ)) (log log_mid log_now : Option (List Read))
-      → AreSettingsRead files q.settings (Ok s) log log_mid → IsAnswerWritten built (setup_with files q s) q.path outcome out out_now log_mid log_now
-      → IsGet built files q outcome out out_now log log_now
+      → AreSettingsRead files q.settings (Ok s) log log_mid → IsAnswerWritten (setup_with files q s) q.path outcome out out_now log_mid log_now
+      → IsGet files q outcome out out_now log log_now
   unfolding get_due
   got_with s outcome out out_now log log_mid log_now a w =
-      run_with (λ s. due_answer (s >>= λ o. answer built o q.path None)) built files q true s outcome out out_now log log_mid log_now a w
+      run_with (λ s. due_answer (s >>= λ o. answer o q.path None)) built files q true s outcome out out_now log log_mid log_now a w
 
 -- ---- the command `plan`
 
@@ -201,17 +201,17 @@ gained_all due door_failed out out_now reads log log_now wrote e = wrote
 
 module _ (o : Setup) (given path : List ℕ) (outcome : Outcome) (out : Option (List ℕ)) (log log_now : Option (List Read)) where
   pub plan_refused : (r : Refusal) → given ≡ path → outcome ≡ refused_outcome r → AreListed o given (Err r) log log_now
-      → IsPlanWritten every_path o path outcome out out log log_now
+      → IsPlanWritten o path outcome out out log log_now
   plan_refused r same e a =
       let b = subst (λ p. AreListed o p (Err r) log log_now) same a in
       written_refused b.reads r outcome out log log_now e (λ known_memory known_store. ap due_rows (b.answered known_memory known_store)) b.reads_are b.logged
 
   pub plan_written : (rows shown : List Listed) (out_now : Option (List ℕ)) → given ≡ path → shown ≡ rows
       → GainsDue (plan_text (map listed_view shown), None) outcome out out_now
-      → AreListed o given (Ok rows) log log_now → IsPlanWritten every_path o path outcome out out_now log log_now
+      → AreListed o given (Ok rows) log log_now → IsPlanWritten o path outcome out out_now log log_now
   plan_written rows shown out_now same all wrote a =
       let b = subst (λ p. AreListed o p (Ok rows) log log_now) same a in
-      let due : due_rows (path_rows every_path o path) ≡ (plan_text (map listed_view shown), None) =
+      let due : due_rows (path_rows o path) ≡ (plan_text (map listed_view shown), None) =
       ap due_rows b.answered ∙ ap (λ rows. (plan_text (map listed_view rows), None)) (sym all)
       in
       record {
@@ -223,17 +223,17 @@ module _ (o : Setup) (given path : List ℕ) (outcome : Outcome) (out : Option (
 
 module _ (built : Ask → Bool) (files : Files) (q : Requested) where
   pub planned_of : (outcome : Outcome) (r : Refusal) (out : Option (List ℕ)) (log log_now : Option (List Read))
-      → outcome ≡ refused_outcome r → AreSettingsRead files q.settings (Err r) log log_now → IsPlan built files q outcome out out log log_now
+      → outcome ≡ refused_outcome r → AreSettingsRead files q.settings (Err r) log log_now → IsPlan files q outcome out out log log_now
   unfolding plan_due
   planned_of outcome r out log log_now e a =
-      run_refused (λ s. due_rows (s >>= λ o. path_rows built o q.path)) (for_rows built) files q false (λ r. refl) r outcome out log log_now e a
+      run_refused (λ s. due_rows (s >>= λ o. path_rows o q.path)) is_index files q false (λ r. refl) r outcome out log log_now e a
 
   pub planned_with : (s : Settled) (outcome : Outcome) (out out_now : Option (List ℕ)) (log log_mid log_now : Option (List Read))
-      → AreSettingsRead files q.settings (Ok s) log log_mid → IsPlanWritten built (setup_with files q s) q.path outcome out out_now log_mid log_now
-      → IsPlan built files q outcome out out_now log log_now
+      → AreSettingsRead files q.settings (Ok s) log log_mid → IsPlanWritten (setup_with files q s) q.path outcome out out_now log_mid log_now
+      → IsPlan files q outcome out out_now log log_now
   unfolding plan_due
   planned_with s outcome out out_now log log_mid log_now a w =
-      run_with (λ s. due_rows (s >>= λ o. path_rows built o q.path)) (for_rows built) files q false s outcome out out_now log log_mid log_now a w
+      run_with (λ s. due_rows (s >>= λ o. path_rows o q.path)) is_index files q false s outcome out out_now log log_mid log_now a w
 
 -- ---- the command `pack`
 
@@ -252,19 +252,19 @@ module _ (due : Due) (out out_now : Option (List ℕ)) where
 
 module _ (built : Ask → Bool) (files : Files) (q : Requested) where
   pub packed_of : (outcome : Outcome) (r : Refusal) (out : Option (List ℕ)) (log log_now : Option (List Read))
-      → outcome ≡ refused_outcome r → AreSettingsRead files q.settings (Err r) log log_now → IsPack built files q outcome out out
+      → outcome ≡ refused_outcome r → AreSettingsRead files q.settings (Err r) log log_now → IsPack files q outcome out out
   unfolding pack_due
   packed_of outcome r out log log_now e a =
-      let due = due_with (run_setup files q) (λ o. packed_path built o q.path) in
+      let due = due_with (run_setup files q) (λ o. packed_path o q.path) in
       let refuses : (r ≢ NoMemory → r ≢ StoreFailed → due ≡ ([], Some r)) = (λ known_memory known_store.
-      ap (λ s. due_with (s >>= λ settings. Ok (setup_with files q settings)) (λ o. packed_path built o q.path)) (a.answered known_memory known_store))
+      ap (λ s. due_with (s >>= λ settings. Ok (setup_with files q settings)) (λ o. packed_path o q.path)) (a.answered known_memory known_store))
       in
       let gained = gained_refused due [] out None None r refuses (GrewByPrefix-same None None [] refl, λ known_memory known_store. refl) in
       subst (λ told. GainsDue due told out out) (sym e) gained.0
 
   pub packed_with : (s : Settled) (outcome : Outcome) (out out_now : Option (List ℕ)) (log log_mid : Option (List Read))
-      → AreSettingsRead files q.settings (Ok s) log log_mid → IsPackWritten built (setup_with files q s) q.path outcome out out_now → IsPack built files q outcome out out_now
+      → AreSettingsRead files q.settings (Ok s) log log_mid → IsPackWritten (setup_with files q s) q.path outcome out out_now → IsPack files q outcome out out_now
   unfolding pack_due
   packed_with s outcome out out_now log log_mid a w =
       let setup : run_setup files q ≡ Ok (setup_with files q s) = ap (λ s. s >>= λ settings. Ok (setup_with files q settings)) a.answered in
-      subst (λ s. GainsDue (due_with s (λ o. packed_path built o q.path)) outcome out out_now) (sym setup) w
+      subst (λ s. GainsDue (due_with s (λ o. packed_path o q.path)) outcome out out_now) (sym setup) w

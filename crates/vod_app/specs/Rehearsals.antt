@@ -15,8 +15,6 @@ use Rattle.vod_source.specs.Stored.{Files}
 use Rattle.origin_model.specs.Answers.{answer, path_rows}
 use Rattle.origin_model.specs.Outcomes.{Due, GainsDue, GainsLine}
 use Rattle.origin_model.specs.Requests.{Setup}
-use Rattle.mp4_flat.specs.Built.{built_paths}
-use Rattle.mp4_flat.specs.Listings.{every_path}
 
 -- ---- the film of a number
 
@@ -72,11 +70,11 @@ line_of n answers (Err why) = ([], Some why)
 
 -- the line of a number over its film, and the refusal of its playlist in place of one
 unfoldable pub rehearsal_due : ℕ → Setup → Due
-rehearsal_due n o = line_of n (answer built_paths o) (path_rows every_path o playlist_path)
+rehearsal_due n o = line_of n (answer o) (path_rows o playlist_path)
 
 -- the listed rows of the playlist over these files, or why there are none
 abbrev pub AreListedRows : Files → Result (List Listed) Refusal → Type 0
-AreListedRows files result = AnswersUnlessFailed (map listed_view) result (path_rows every_path (rehearsal_setup files) playlist_path)
+AreListedRows files result = AnswersUnlessFailed (map listed_view) result (path_rows (rehearsal_setup files) playlist_path)
 
 -- ---- outcomes
 

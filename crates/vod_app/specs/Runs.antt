@@ -9,7 +9,7 @@ use Rattle.vod_source.specs.Stored.{Files, Read}
 use Rattle.origin_model.specs.Answers.{answer, path_rows}
 use Rattle.origin_model.specs.Outcomes.{AreRunReads, Due, GainsDue, GainsLine, GainsReads, due_answer, due_rows, get_due, pack_due, plan_due, settings_named, settings_reads}
 use Rattle.origin_model.specs.Packaging.{packed_path}
-use Rattle.origin_model.specs.Reads.{AreReads, for_rows}
+use Rattle.origin_model.specs.Reads.{AreReads}
 use Rattle.origin_model.specs.Requests.{Setup}
 use Rattle.vod_source.specs.Calls.{AnswersUnlessFailed, LogsReads}
 use Rattle.mp4_flat.specs.declared.entries.PackEnd.{PackEnd}
@@ -44,34 +44,34 @@ cut_refusal None = None
 cut_refusal (Some cut) = Some (refusals.BadNal cut.0 cut.1)
 
 -- What was written of what is due for a path, and what was read for it, by this outcome.
-pub record IsWritten (due : Due) (built : Ask → Bool) (o : Setup) (with_body : Bool) (path : List ℕ) (outcome : Outcome) (out out_now : Option (List ℕ)) (log log_now : Option (List Read)) : Type 0 where
+pub record IsWritten (due : Due) (has_leaf : Leaf → Bool) (o : Setup) (with_body : Bool) (path : List ℕ) (outcome : Outcome) (out out_now : Option (List ℕ)) (log log_now : Option (List Read)) : Type 0 where
   pub wrote : GainsDue due outcome out out_now
   pub reads : List Read
-  pub reads_are : AreReads built o [] with_body path None reads
+  pub reads_are : AreReads has_leaf o [] with_body path None reads
   pub logged : GainsReads reads outcome log log_now
 
 -- of the answer of a path
-abbrev pub IsAnswerWritten : (Ask → Bool) → Setup → List ℕ → Outcome → Option (List ℕ) → Option (List ℕ) → Option (List Read) → Option (List Read) → Type 0
-IsAnswerWritten built o path outcome out out_now log log_now = IsWritten (due_answer (answer built o path None)) built o true path outcome out out_now log log_now
+abbrev pub IsAnswerWritten : Setup → List ℕ → Outcome → Option (List ℕ) → Option (List ℕ) → Option (List Read) → Option (List Read) → Type 0
+IsAnswerWritten o path outcome out out_now log log_now = IsWritten (due_answer (answer o path None)) every_leaf o true path outcome out out_now log log_now
 
 -- of the listed rows of a path
-abbrev pub IsPlanWritten : (Ask → Bool) → Setup → List ℕ → Outcome → Option (List ℕ) → Option (List ℕ) → Option (List Read) → Option (List Read) → Type 0
-IsPlanWritten built o path outcome out out_now log log_now = IsWritten (due_rows (path_rows built o path)) (for_rows built) o false path outcome out out_now log log_now
+abbrev pub IsPlanWritten : Setup → List ℕ → Outcome → Option (List ℕ) → Option (List ℕ) → Option (List Read) → Option (List Read) → Type 0
+IsPlanWritten o path outcome out out_now log log_now = IsWritten (due_rows (path_rows o path)) is_index o false path outcome out out_now log log_now
 
 -- What a run wrote of what is due, and what it read for the settings and the request, by this outcome.
-pub record IsRun (due : Due) (built : Ask → Bool) (files : Files) (q : Requested) (with_body : Bool) (outcome : Outcome) (out out_now : Option (List ℕ)) (log log_now : Option (List Read)) : Type 0 where
+pub record IsRun (due : Due) (has_leaf : Leaf → Bool) (files : Files) (q : Requested) (with_body : Bool) (outcome : Outcome) (out out_now : Option (List ℕ)) (log log_now : Option (List Read)) : Type 0 where
   pub wrote : GainsDue due outcome out out_now
   pub reads : List Read
-  pub reads_are : AreRunReads built files q with_body reads
+  pub reads_are : AreRunReads files q has_leaf with_body reads
   pub logged : GainsReads reads outcome log log_now
 
 -- what `get` wrote and read by this outcome
-abbrev pub IsGet : (Ask → Bool) → Files → Requested → Outcome → Option (List ℕ) → Option (List ℕ) → Option (List Read) → Option (List Read) → Type 0
-IsGet built files q outcome out out_now log log_now = IsRun (get_due built files q) built files q true outcome out out_now log log_now
+abbrev pub IsGet : Files → Requested → Outcome → Option (List ℕ) → Option (List ℕ) → Option (List Read) → Option (List Read) → Type 0
+IsGet files q outcome out out_now log log_now = IsRun (get_due files q) every_leaf files q true outcome out out_now log log_now
 
 -- what `plan` wrote and read by this outcome
-abbrev pub IsPlan : (Ask → Bool) → Files → Requested → Outcome → Option (List ℕ) → Option (List ℕ) → Option (List Read) → Option (List Read) → Type 0
-IsPlan built files q outcome out out_now log log_now = IsRun (plan_due built files q) (for_rows built) files q false outcome out out_now log log_now
+abbrev pub IsPlan : Files → Requested → Outcome → Option (List ℕ) → Option (List ℕ) → Option (List Read) → Option (List Read) → Type 0
+IsPlan files q outcome out out_now log log_now = IsRun (plan_due files q) is_index files q false outcome out out_now log log_now
 
 -- the outcome of a packaging that ended so
 abbrev pub pack_outcome : PackEnd → Outcome
@@ -80,32 +80,32 @@ pack_outcome (packs.Refused r) = refused_outcome r
 pack_outcome packs.SinkFailed = sink_failed
 
 -- what `pack` wrote by this outcome; nothing is said of its reads
-abbrev pub IsPack : (Ask → Bool) → Files → Requested → Outcome → Option (List ℕ) → Option (List ℕ) → Type 0
-IsPack built files q outcome out out_now = GainsDue (pack_due built files q) outcome out out_now
+abbrev pub IsPack : Files → Requested → Outcome → Option (List ℕ) → Option (List ℕ) → Type 0
+IsPack files q outcome out out_now = GainsDue (pack_due files q) outcome out out_now
 
 -- with these settings
-abbrev pub IsPackWritten : (Ask → Bool) → Setup → List ℕ → Outcome → Option (List ℕ) → Option (List ℕ) → Type 0
-IsPackWritten built o path outcome out out_now = GainsDue (packed_path built o path) outcome out out_now
+abbrev pub IsPackWritten : Setup → List ℕ → Outcome → Option (List ℕ) → Option (List ℕ) → Type 0
+IsPackWritten o path outcome out out_now = GainsDue (packed_path o path) outcome out out_now
 
 -- how `plan` ends, what it wrote and which reads it made
 pub record PlanOutcome
-    (built : Ask → Bool) (files : Files) (q : Requested) (status : ℕ) (out out_now : Option (List ℕ)) (log log_now : Option (List Read))
+    (files : Files) (q : Requested) (status : ℕ) (out out_now : Option (List ℕ)) (log log_now : Option (List Read))
     (err err_now : Option (List ℕ)) (err_faults err_faults_now : ℕ) : Type 0 where
   pub outcome : Outcome
   pub status_is : status ≡ outcome_status outcome
-  pub wrote : GainsDue (plan_due built files q) outcome out out_now
+  pub wrote : GainsDue (plan_due files q) outcome out out_now
   pub reads : List Read
-  pub reads_are : AreRunReads (for_rows built) files q false reads
+  pub reads_are : AreRunReads files q is_index false reads
   pub logged : GainsReads reads outcome log log_now
   pub told : GainsLine outcome err err_now err_faults err_faults_now
 
 -- how `pack` ends and what it wrote
 pub record PackOutcome
-    (built : Ask → Bool) (files : Files) (q : Requested) (status : ℕ) (out out_now : Option (List ℕ))
+    (files : Files) (q : Requested) (status : ℕ) (out out_now : Option (List ℕ))
     (err err_now : Option (List ℕ)) (err_faults err_faults_now : ℕ) : Type 0 where
   pub outcome : Outcome
   pub status_is : status ≡ outcome_status outcome
-  pub wrote : GainsDue (pack_due built files q) outcome out out_now
+  pub wrote : GainsDue (pack_due files q) outcome out out_now
   pub told : GainsLine outcome err err_now err_faults err_faults_now
 
 -- a run tells its outcome by its status and by a line

@@ -1,6 +1,5 @@
 -- What the commands do that serve connections; this project's own.
-use Rattle.std.specs.Prelude.{◌≡◌, ℕ, Bool, List, Option, Result, ⊤}
-use Rattle.vod_types.specs.declared.paths.Ask.{Ask}
+use Rattle.std.specs.Prelude.{◌≡◌, ℕ, List, Option, Result, ⊤}
 use Rattle.vod_types.specs.declared.refusal.Refusal.{Refusal}
 use Rattle.vod_types.specs.Settled.{Settled}
 use Rattle.list_model.specs.Command.{Outcome, done, usage, refused, store_failed, sink_failed, no_memory, door_failed, outcome_status}
@@ -15,8 +14,8 @@ use Rattle.vod_app.specs.declared.words.Order.{Order}
 use Rattle.vod_app.specs.declared.words.Order.TheVariants as orders
 
 -- what is answered to each path over these files, with these settings
-abbrev pub answers_with : (Ask → Bool) → Files → List ℕ → Settled → Answers
-answers_with built files root settings path range = answer built (record { settings = settings; root = root; files = files }) path range
+abbrev pub answers_with : Files → List ℕ → Settled → Answers
+answers_with files root settings path range = answer (record { settings = settings; root = root; files = files }) path range
 
 module _ {L : Type 0} (left written : L → Option (List ℕ)) (named : Result Settled Refusal) (answers : Settled → Answers) (count : ℕ) (door door_now : DoorState L) (faults faults_now : ℕ) where
   -- what was done with the links of a door that was opened, in an order

@@ -5,8 +5,6 @@ ghost use Rattle.std.specs.Prelude.{◌≡◌, ◌↔◌, ◌≤◌, ◌<◌, �
 ghost use Rattle.list_model.specs.Command.{Requested, command_of, door_failed, get as get_of, pack as pack_of, plan as plan_of, reads as reads_of, rehearse as rehearse_of, serve as serve_of, sink_failed, store_failed, turns as turns_of, usage};
 ghost use Rattle.vod_source.specs.Causes.{Rose};
 ghost use Rattle.origin_model.specs.Outcomes.{GetOutcome, settings_named, settings_reads};
-ghost use Rattle.mp4_flat.specs.Built.{built_paths};
-ghost use Rattle.mp4_flat.specs.Listings.{every_path};
 ghost use Rattle.vod_turns.specs.Outcomes.{AreTurnedBy, IsServedBy};
 ghost use Rattle.vod_app.specs.declared.words.Order.{Order};
 ghost use Rattle.vod_app.specs.Commands.{opens_door, serving};
@@ -95,22 +93,22 @@ pub fn run<S: Store, D: Door, K: Sink, E: Sink>(
 
     // What `get` writes and reads, wherever the store tells its content.
     ensures get { IfSome (S.content store) (λ files. (q : Requested) → command_of (map string_bytes words.now) ≡ Some (get_of q) →
-        GetOutcome built_paths files q result.status (K.written out.old) (K.written out.new) (S.log store) (S.log result.store)
+        GetOutcome files q result.status (K.written out.old) (K.written out.new) (S.log store) (S.log result.store)
         (E.written err.old) (E.written err.new) (E.faults err.old) (E.faults err.new)) }
 
     // The same of `plan`.
     ensures plan { IfSome (S.content store) (λ files. (q : Requested) → command_of (map string_bytes words.now) ≡ Some (plan_of q) →
-        PlanOutcome every_path files q result.status (K.written out.old) (K.written out.new) (S.log store) (S.log result.store)
+        PlanOutcome files q result.status (K.written out.old) (K.written out.new) (S.log store) (S.log result.store)
         (E.written err.old) (E.written err.new) (E.faults err.old) (E.faults err.new)) }
 
     // What `pack` writes.
     ensures pack { IfSome (S.content store) (λ files. (q : Requested) → command_of (map string_bytes words.now) ≡ Some (pack_of q) →
-        PackOutcome every_path files q result.status (K.written out.old) (K.written out.new)
+        PackOutcome files q result.status (K.written out.old) (K.written out.new)
         (E.written err.old) (E.written err.new) (E.faults err.old) (E.faults err.new)) }
 
     // What `reads` writes of the reads that it makes; of the store's own log it says nothing.
     ensures reads { IfSome (S.content store) (λ files. (q : Requested) → command_of (map string_bytes words.now) ≡ Some (reads_of q) →
-        ReadsOutcome built_paths files q result.status (K.written out.old) (K.written out.new)
+        ReadsOutcome files q result.status (K.written out.old) (K.written out.new)
         (E.written err.old) (E.written err.new) (E.faults err.old) (E.faults err.new)) }
 
     // What `rehearse` writes. It asks nothing of the store.
@@ -120,13 +118,13 @@ pub fn run<S: Store, D: Door, K: Sink, E: Sink>(
 
     // What `serve` does with the links of the door, and `turns`, wherever the store tells its content.
     ensures serve { IfSome (S.content store) (λ files. (root settings addr : List ℕ) (count : ℕ) → command_of (map string_bytes words.now) ≡ Some (serve_of root settings addr count) →
-        ServiceOutcome (IsServedBy D.L.left D.L.written (settings_named files settings) (answers_with built_paths files root) count
+        ServiceOutcome (IsServedBy D.L.left D.L.written (settings_named files settings) (answers_with files root) count
         (record { coming = D.coming door.old; returned = D.returned door.old; out = D.out door.old })
         (record { coming = D.coming door.new; returned = D.returned door.new; out = D.out door.new })
         (S.faults store) (S.faults result.store)) (settings_reads files settings) result.status (S.log store) (S.log result.store)
         (E.written err.old) (E.written err.new) (E.faults err.old) (E.faults err.new)) }
     ensures turns { IfSome (S.content store) (λ files. (root settings addr : List ℕ) (count : ℕ) → command_of (map string_bytes words.now) ≡ Some (turns_of root settings addr count) →
-        ServiceOutcome (AreTurnedBy D.L.left D.L.written (settings_named files settings) (answers_with built_paths files root) count
+        ServiceOutcome (AreTurnedBy D.L.left D.L.written (settings_named files settings) (answers_with files root) count
         (record { coming = D.coming door.old; returned = D.returned door.old; out = D.out door.old })
         (record { coming = D.coming door.new; returned = D.returned door.new; out = D.out door.new })
         (S.faults store) (S.faults result.store)) (settings_reads files settings) result.status (S.log store) (S.log result.store)
@@ -168,17 +166,17 @@ fn run_command<S: Store, D: Door, K: Sink>(
     ensures door { opens_door (command_of (map string_bytes words.now)) ≡ false → door.new ≡ door.old }
     ensures served_unwritten { opens_door (command_of (map string_bytes words.now)) ≡ true → out.new ≡ out.old }
     ensures got { IfSome (S.content store) (λ files. (q : Requested) → command_of (map string_bytes words.now) ≡ Some (get_of q) →
-        IsGet built_paths files q (outcome_of result.end) (K.written out.old) (K.written out.new) (S.log store) (S.log result.store)) }
+        IsGet files q (outcome_of result.end) (K.written out.old) (K.written out.new) (S.log store) (S.log result.store)) }
     ensures planned { IfSome (S.content store) (λ files. (q : Requested) → command_of (map string_bytes words.now) ≡ Some (plan_of q) →
-        IsPlan every_path files q (outcome_of result.end) (K.written out.old) (K.written out.new) (S.log store) (S.log result.store)) }
+        IsPlan files q (outcome_of result.end) (K.written out.old) (K.written out.new) (S.log store) (S.log result.store)) }
     ensures packed { IfSome (S.content store) (λ files. (q : Requested) → command_of (map string_bytes words.now) ≡ Some (pack_of q) →
-        IsPack every_path files q (outcome_of result.end) (K.written out.old) (K.written out.new)) }
+        IsPack files q (outcome_of result.end) (K.written out.old) (K.written out.new)) }
     ensures read { IfSome (S.content store) (λ files. (q : Requested) → command_of (map string_bytes words.now) ≡ Some (reads_of q) →
-        IsReads built_paths files q (outcome_of result.end) (K.written out.old) (K.written out.new)) }
+        IsReads files q (outcome_of result.end) (K.written out.old) (K.written out.new)) }
     ensures rehearsed { (n : ℕ) → command_of (map string_bytes words.now) ≡ Some (rehearse_of n) →
         IsRehearsed n (outcome_of result.end) (K.written out.old) (K.written out.new) × (result.store ≡ store) }
     ensures served { IfSome (S.content store) (λ files. (order : Order) (root settings addr : List ℕ) (count : ℕ) → command_of (map string_bytes words.now) ≡ Some (serving order root settings addr count) →
-        DoesBy D.L.left D.L.written (settings_named files settings) (answers_with built_paths files root) count
+        DoesBy D.L.left D.L.written (settings_named files settings) (answers_with files root) count
         (record { coming = D.coming door.old; returned = D.returned door.old; out = D.out door.old })
         (record { coming = D.coming door.new; returned = D.returned door.new; out = D.out door.new })
         (S.faults store) (S.faults result.store) order (outcome_of result.end)

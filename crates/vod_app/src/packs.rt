@@ -4,7 +4,6 @@ ghost use Rattle.std.specs.Prelude.{◌≡◌, ◌≢◌, ◌≤◌, IfSome};
 ghost use Rattle.list_model.specs.Command.{door_failed, sink_failed, store_failed, usage};
 ghost use Rattle.vod_source.specs.Causes.{Rose};
 ghost use Rattle.origin_model.specs.Outcomes.{setup_with};
-ghost use Rattle.mp4_flat.specs.Listings.{every_path};
 ghost use Rattle.vod_app.specs.Commands.{requested};
 ghost use Rattle.vod_app.specs.Runs.{outcome_of, IsPack, IsPackWritten};
 
@@ -23,7 +22,7 @@ pub fn pack<S: Store, K: Sink>(
     store: &mut S,
     out: &mut K,
 ) -> End
-    ensures packed { IfSome (S.content store.old) (λ files. IsPack every_path files (requested request.entry) (outcome_of result)
+    ensures packed { IfSome (S.content store.old) (λ files. IsPack files (requested request.entry) (outcome_of result)
         (K.written out.old) (K.written out.new)) }
     ensures form { outcome_of result ≢ usage }
     ensures door { outcome_of result ≢ door_failed }
@@ -48,7 +47,7 @@ fn pack_with<S: Store, K: Sink>(
     store: &mut S,
     out: &mut K,
 ) -> End
-    ensures packed { IfSome (S.content store.old) (λ files. IsPackWritten every_path (setup_with files (requested request.entry) settings.now) (requested request.entry).path
+    ensures packed { IfSome (S.content store.old) (λ files. IsPackWritten (setup_with files (requested request.entry) settings.now) (requested request.entry).path
         (outcome_of result) (K.written out.old) (K.written out.new)) }
     ensures form { outcome_of result ≢ usage }
     ensures door { outcome_of result ≢ door_failed }

@@ -5,7 +5,6 @@ ghost use Rattle.list_model.specs.Command.{door_failed, no_memory, plan_line, pl
 ghost use Rattle.vod_source.specs.Causes.{Rose};
 ghost use Rattle.origin_model.specs.Outcomes.{GainsDue, setup_with};
 ghost use Rattle.segment_model.specs.Listing.{listed_view};
-ghost use Rattle.mp4_flat.specs.Listings.{every_path};
 ghost use Rattle.vod_app.specs.Commands.{requested};
 ghost use Rattle.vod_app.specs.Runs.{outcome_of, IsPlan, IsPlanWritten};
 
@@ -27,7 +26,7 @@ pub fn plan<S: Store, K: Sink>(
     store: &mut S,
     out: &mut K,
 ) -> End
-    ensures planned { IfSome (S.content store.old) (λ files. IsPlan every_path files (requested request.entry) (outcome_of result)
+    ensures planned { IfSome (S.content store.old) (λ files. IsPlan files (requested request.entry) (outcome_of result)
         (K.written out.old) (K.written out.new) (S.log store.old) (S.log store.new)) }
     ensures form { outcome_of result ≢ usage }
     ensures door { outcome_of result ≢ door_failed }
@@ -52,7 +51,7 @@ fn plan_with<S: Store, K: Sink>(
     store: &mut S,
     out: &mut K,
 ) -> End
-    ensures planned { IfSome (S.content store.old) (λ files. IsPlanWritten every_path (setup_with files (requested request.entry) settings.now) (requested request.entry).path
+    ensures planned { IfSome (S.content store.old) (λ files. IsPlanWritten (setup_with files (requested request.entry) settings.now) (requested request.entry).path
         (outcome_of result) (K.written out.old) (K.written out.new) (S.log store.old) (S.log store.new)) }
     ensures form { outcome_of result ≢ usage }
     ensures door { outcome_of result ≢ door_failed }

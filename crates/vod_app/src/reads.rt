@@ -6,7 +6,6 @@ ghost use Rattle.vod_source.specs.Causes.{Rose};
 ghost use Rattle.vod_source.specs.Logs.{reads_of};
 ghost use Rattle.vod_types.specs.declared.refusal.Refusal.TheVariants.{StoreFailed};
 ghost use Rattle.origin_model.specs.Outcomes.{setup_with};
-ghost use Rattle.mp4_flat.specs.Built.{built_paths};
 ghost use Rattle.vod_app.specs.Commands.{requested};
 ghost use Rattle.vod_app.specs.Runs.{cut_refusal, outcome_of};
 ghost use Rattle.vod_app.specs.ReadsRuns.{EndsWith, IsEnd, IsLogged, IsReads, AreReadsWritten, WritesReads};
@@ -34,7 +33,7 @@ pub fn reads<S: Store, K: Sink>(
     store: S,
     out: &mut K,
 ) -> Done<S>
-    ensures reads { IfSome (S.content store) (λ files. IsReads built_paths files (requested request.entry) (outcome_of result.end) (K.written out.old) (K.written out.new)) }
+    ensures reads { IfSome (S.content store) (λ files. IsReads files (requested request.entry) (outcome_of result.end) (K.written out.old) (K.written out.new)) }
     ensures form { outcome_of result.end ≢ usage }
     ensures door { outcome_of result.end ≢ door_failed }
     ensures content { S.content result.store ≡ S.content store }
@@ -62,7 +61,7 @@ fn reads_with<S: Store, K: Sink>(
     store: S,
     out: &mut K,
 ) -> Done<S>
-    ensures reads { IfSome (S.content store) (λ files. AreReadsWritten built_paths (setup_with files (requested request.entry) settings.now) (requested request.entry).path
+    ensures reads { IfSome (S.content store) (λ files. AreReadsWritten (setup_with files (requested request.entry) settings.now) (requested request.entry).path
         (outcome_of result.end) (K.written out.old) (K.written out.new)) }
     ensures form { outcome_of result.end ≢ usage }
     ensures door { outcome_of result.end ≢ door_failed }
@@ -96,7 +95,7 @@ fn answer_logged<S: Store, B: Base>(
     store: S,
 ) -> Result<(End, Logged<S>), S>
     requires base { B.faults ≡ S.faults store }
-    ensures logged { IfSome (S.content store) (λ files. IfOk result (λ ran. IsLogged built_paths (setup_with files (requested request.entry) settings.now) (requested request.entry).path
+    ensures logged { IfSome (S.content store) (λ files. IfOk result (λ ran. IsLogged (setup_with files (requested request.entry) settings.now) (requested request.entry).path
         (outcome_of ran.0) (reads_of ran.1.names ran.1.entries))) }
     ensures form { IfOk result (λ ran. (outcome_of ran.0 ≢ usage) × (outcome_of ran.0 ≢ sink_failed) × (outcome_of ran.0 ≢ door_failed)) }
     ensures content { IfOk result (λ ran. S.content ran.1.inner ≡ S.content store) }

@@ -9,7 +9,6 @@ ghost use Rattle.vod_session.specs.Calls.{AreAnswers};
 ghost use Rattle.vod_session.specs.Steps.{Answers};
 ghost use Rattle.vod_source.specs.Causes.{Rose};
 ghost use Rattle.origin_model.specs.Answers.{answer};
-ghost use Rattle.mp4_flat.specs.Built.{built_paths};
 ghost use Rattle.vod_app.specs.Rehearsals.{answer_length, answered_media, front_bytes, listed_samples, rehearsal_settings, rehearsal_setup, segment_path as segment_path_of, AreListedRows, IsFilm, IsRehearsed, TellsLine};
 ghost use Rattle.vod_app.specs.Runs.{outcome_of};
 
@@ -110,7 +109,7 @@ fn counted(
     requires settings { settings ≡ rehearsal_settings }
     requires few { length rows.now < 2 ^ 63 }
     ensures line { IfOk result (λ text. string_bytes text ≡ rehearsal_line_of n (length rows.now) (sum_by listed_samples (map listed_view rows.now))
-        (sum_by (answered_media (answer built_paths (rehearsal_setup store.files))) (map listed_view rows.now))) }
+        (sum_by (answered_media (answer (rehearsal_setup store.files))) (map listed_view rows.now))) }
     ensures only { IfErr result (λ refusal. refusal ≡ NoMemory) }
 {
     let root = match Name::new(alloc, ROOT) {

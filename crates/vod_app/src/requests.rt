@@ -4,7 +4,6 @@ ghost use Rattle.std.specs.Prelude.{◌≡◌, ◌≢◌, ◌≤◌, IfSome};
 ghost use Rattle.list_model.specs.Command.{door_failed, store_failed, sink_failed, no_memory, usage};
 ghost use Rattle.vod_source.specs.Causes.{Rose};
 ghost use Rattle.origin_model.specs.Outcomes.{GainsDue, setup_with};
-ghost use Rattle.mp4_flat.specs.Built.{built_paths};
 ghost use Rattle.vod_app.specs.Commands.{requested};
 ghost use Rattle.vod_app.specs.Runs.{cut_refusal, outcome_of, IsAnswerWritten, IsGet};
 
@@ -23,7 +22,7 @@ pub fn get<S: Store, K: Sink>(
     store: &mut S,
     out: &mut K,
 ) -> End
-    ensures got { IfSome (S.content store.old) (λ files. IsGet built_paths files (requested request.entry) (outcome_of result)
+    ensures got { IfSome (S.content store.old) (λ files. IsGet files (requested request.entry) (outcome_of result)
         (K.written out.old) (K.written out.new) (S.log store.old) (S.log store.new)) }
     ensures form { outcome_of result ≢ usage }
     ensures door { outcome_of result ≢ door_failed }
@@ -48,7 +47,7 @@ fn get_with<S: Store, K: Sink>(
     store: &mut S,
     out: &mut K,
 ) -> End
-    ensures got { IfSome (S.content store.old) (λ files. IsAnswerWritten built_paths (setup_with files (requested request.entry) settings.now) (requested request.entry).path
+    ensures got { IfSome (S.content store.old) (λ files. IsAnswerWritten (setup_with files (requested request.entry) settings.now) (requested request.entry).path
         (outcome_of result) (K.written out.old) (K.written out.new) (S.log store.old) (S.log store.new)) }
     ensures form { outcome_of result ≢ usage }
     ensures door { outcome_of result ≢ door_failed }

@@ -7,7 +7,6 @@ ghost use Rattle.vod_types.specs.Settled.{Settled};
 ghost use Rattle.vod_session.specs.Calls.{AreAnswers};
 ghost use Rattle.vod_session.specs.Steps.{Answers};
 ghost use Rattle.origin_model.specs.Outcomes.{settings_named, settings_reads};
-ghost use Rattle.mp4_flat.specs.Built.{built_paths};
 ghost use Rattle.vod_app.specs.Runs.{outcome_of};
 ghost use Rattle.vod_app.specs.Services.{DoesBy, DoesWith, EndsOpened, LogsSettings, answers_with};
 
@@ -36,7 +35,7 @@ pub fn serve<S: Store, D: Door>(
     door: &mut D,
 ) -> Done<S>
     ensures served { IfSome (S.content store) (λ files. DoesBy D.L.left D.L.written (settings_named files service.entry.settings.now)
-        (answers_with built_paths files service.entry.root.now) service.entry.count
+        (answers_with files service.entry.root.now) service.entry.count
         (record { coming = D.coming door.old; returned = D.returned door.old; out = D.out door.old })
         (record { coming = D.coming door.new; returned = D.returned door.new; out = D.out door.new })
         (S.faults store) (S.faults result.store) service.entry.order (outcome_of result.end)) }
@@ -67,7 +66,7 @@ fn serve_with<S: Store, D: Door>(
     door: &mut D,
 ) -> Done<S>
     ensures served { IfSome (S.content store) (λ files. DoesBy D.L.left D.L.written (Ok settings)
-        (answers_with built_paths files service.entry.root.now) service.entry.count
+        (answers_with files service.entry.root.now) service.entry.count
         (record { coming = D.coming door.old; returned = D.returned door.old; out = D.out door.old })
         (record { coming = D.coming door.new; returned = D.returned door.new; out = D.out door.new })
         (S.faults store) (S.faults result.store) service.entry.order (outcome_of result.end)) }

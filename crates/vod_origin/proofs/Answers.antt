@@ -11,7 +11,7 @@ use Rattle.answer_laws.proofs.Answers.{ask_answered}
 use Rattle.answer_laws.specs.Laws.{IsLeafAnswer}
 use Rattle.flat_segments.specs.Bodies.{cut_of, flat_shown}
 use Rattle.flat_segments.specs.declared.body.FlatBody.{FlatBody}
-use Rattle.mp4_flat.specs.Built.{built_paths, is_built_leaf}
+use Rattle.mp4_flat.specs.Built.{is_built_leaf}
 use Rattle.mp4_flat.specs.Flat.{flat_seen}
 use Rattle.vod_origin.specs.Bodies.{end_of}
 use Rattle.vod_origin.specs.Ranges.{ask_unranged}
@@ -23,12 +23,12 @@ end-cut (bad_nal file sample) = refl
 -- ---- paths
 
 module _ (o : Setup) (path : List ℕ) (range : Option ByteRange) where
-  pub answer-refused : (e : Refusal) → readable built_paths path ≡ Err e → answer built_paths o path range ≡ Err e
+  pub answer-refused : (e : Refusal) → readable path ≡ Err e → answer o path range ≡ Err e
   unfolding answer
   answer-refused e read = ap (λ (r : Result Ask Refusal). r >>= ask_answer o range) read
 
   -- it is that of what it asks for
-  pub answer-read : (ask : Ask) → readable built_paths path ≡ Ok ask → is_built_leaf ask.leaf ≡ true → answer built_paths o path range ≡ ask_answer o None ask
+  pub answer-read : (ask : Ask) → readable path ≡ Ok ask → is_built_leaf ask.leaf ≡ true → answer o path range ≡ ask_answer o None ask
   unfolding answer
   answer-read ask read built = ap (λ (r : Result Ask Refusal). r >>= ask_answer o range) read ∙ ask_unranged o range ask built
 

@@ -15,7 +15,7 @@ use Rattle.vod_http.specs.declared.answerer.Reply.TheVariants.{Body, Refused}
 use Rattle.origin_model.specs.Answers.{ask_answer, readable}
 use Rattle.answer_laws.specs.Refusals.{IsPathRefusal}
 use Rattle.flat_lists.specs.Asked.{setup_of}
-use Rattle.mp4_flat.specs.Built.{built_paths, is_built_leaf}
+use Rattle.mp4_flat.specs.Built.{is_built_leaf}
 use Rattle.vod_origin.specs.AnswerLaw.{may_refuse}
 use Rattle.vod_origin.specs.Begun.{asked_answer, Begins, Replies}
 use Rattle.vod_origin.specs.Bodies.{rest_in, rest_with}
@@ -66,7 +66,7 @@ module _ (settings : Settled) (root : List ℕ) (ask : Ask) where
 
 module _ (k : OriginKept) (path : List ℕ) (range : Option ByteRange) where
   -- the answer of a path is that of what it asks for
-  pub path_told : (ask : Ask) → readable built_paths path ≡ Ok ask → is_built_leaf ask.leaf ≡ true → origin_answer k path range ≡ asked_answer k.settings k.root ask k.content
+  pub path_told : (ask : Ask) → readable path ≡ Ok ask → is_built_leaf ask.leaf ≡ true → origin_answer k path range ≡ asked_answer k.settings k.root ask k.content
   path_told ask read built = by_content k.content
     where
       by_content : (content : Option Files) → origin_answer (record k { content = content }) path range ≡ asked_answer k.settings k.root ask content
@@ -74,11 +74,11 @@ module _ (k : OriginKept) (path : List ℕ) (range : Option ByteRange) where
       by_content (Some files) = ap Some (answer-read (setup_of k.settings k.root files) path range ask read built)
 
   -- a path that isn't read
-  pub unread : (before now : ℕ) (e : Refusal) → IsPathRefusal e → e ≢ StoreFailed → (e ≢ NoMemory → readable built_paths path ≡ Err e) → IsRefused range (origin_answer k path range) before now e
+  pub unread : (before now : ℕ) (e : Refusal) → IsPathRefusal e → e ≢ StoreFailed → (e ≢ NoMemory → readable path ≡ Err e) → IsRefused range (origin_answer k path range) before now e
   unread before now e may not_failed is =
       refused_as range (origin_answer k path range) before now e may (λ failed. absurd (not_failed failed))
       (λ known_memory known_store. by_content k.content (is known_memory))
     where
-      by_content : (content : Option Files) → readable built_paths path ≡ Err e → IfSome (origin_answer (record k { content = content }) path range) (λ a. a ≡ Err e)
+      by_content : (content : Option Files) → readable path ≡ Err e → IfSome (origin_answer (record k { content = content }) path range) (λ a. a ≡ Err e)
       by_content None read = tt
       by_content (Some files) read = answer-refused (setup_of k.settings k.root files) path range e read

@@ -15,7 +15,6 @@ use Rattle.origin_model.specs.Requests.{Setup}
 use Rattle.answer_laws.specs.Laws.{IsLeafAnswer}
 use Rattle.answer_laws.specs.Refusals.{IsPathRefusal}
 use Rattle.answer_laws.proofs.Answers.{path_answered}
-use Rattle.mp4_flat.specs.Built.{built_paths}
 use Rattle.vod_origin.specs.Kept.{OriginKept, origin_answer, setup_of}
 use Rattle.vod_origin.specs.Ranges.{path_unranged}
 
@@ -68,12 +67,12 @@ of_leaf range leaf (Ok body) law =
     subst (λ (b : Body). IsAnswer range (Ok b)) (sym law.is)
     ((has_length leaf (length body.bytes), tt), has_bytes leaf body.bytes (λ none. law.packets (ap (λ (b : Body). b.length) law.is ∙ none)))
 
-keeps : (o : Setup) (path : List ℕ) (range : Option ByteRange) → IsAnswer range (answer built_paths o path range)
-keeps o path range = let law = path_answered built_paths o path in subst (IsAnswer range) (sym (path_unranged o path range)) (of_leaf range law.0 (answer built_paths o path None) law.1)
+keeps : (o : Setup) (path : List ℕ) (range : Option ByteRange) → IsAnswer range (answer o path range)
+keeps o path range = let law = path_answered o path in subst (IsAnswer range) (sym (path_unranged o path range)) (of_leaf range law.0 (answer o path None) law.1)
 
 pub answers : (k : OriginKept) (path : List ℕ) (range : Option ByteRange) → IfSome range IsByteRange → IfSome (origin_answer k path range) (IsAnswer range)
 answers k path range ordered = by_content k.content
   where
-    by_content : (content : Option Files) → IfSome (option_map (λ files. answer built_paths (setup_of k files) path range) content) (IsAnswer range)
+    by_content : (content : Option Files) → IfSome (option_map (λ files. answer (setup_of k files) path range) content) (IsAnswer range)
     by_content None = tt
     by_content (Some files) = keeps (setup_of k files) path range

@@ -13,7 +13,7 @@ use Rattle.vod_types.specs.Results.{◌>>=◌, ◌>>◌, unless}
 use Rattle.list_model.specs.Path.{ask_of}
 use Rattle.origin_model.specs.Answers.{answer, ask_answer, ranged_answer, readable, readable_as}
 use Rattle.origin_model.specs.Requests.{Setup, Asking, asking_of}
-use Rattle.mp4_flat.specs.Built.{built_paths, is_built_leaf}
+use Rattle.mp4_flat.specs.Built.{is_built_leaf}
 
 -- a range is passed over, but of a clip, which isn't built
 leaf_unranged : (o : Setup) (a : Asking) (range : Option ByteRange) (leaf : Leaf) → is_built_leaf leaf ≡ true → ranged_answer o a range leaf ≡ ranged_answer o a None leaf
@@ -35,7 +35,7 @@ ask_unranged o range ask built = by_asking (asking_of o ask)
     by_asking (Err e) = refl
 
 -- the form of what is read is built
-built_read : (path : List ℕ) → IfOk (readable built_paths path) (λ ask. is_built_leaf ask.leaf ≡ true)
+built_read : (path : List ℕ) → IfOk (readable path) (λ ask. is_built_leaf ask.leaf ≡ true)
 unfolding readable_as built_paths
 built_read path = by_ask (ok_or (option_and_then (passing (λ (ask : Ask). true)) (ask_of path)) BadPath)
   where
@@ -49,9 +49,9 @@ built_read path = by_ask (ok_or (option_and_then (passing (λ (ask : Ask). true)
 
 module _ (o : Setup) (path : List ℕ) (range : Option ByteRange) where
   -- it is that of the path alone
-  pub path_unranged : answer built_paths o path range ≡ answer built_paths o path None
+  pub path_unranged : answer o path range ≡ answer o path None
   unfolding answer
-  path_unranged = by_read (readable built_paths path) (built_read path)
+  path_unranged = by_read (readable path) (built_read path)
     where
       by_read : (r : Result Ask Refusal) → IfOk r (λ ask. is_built_leaf ask.leaf ≡ true) → (r >>= ask_answer o range) ≡ (r >>= ask_answer o None)
       by_read (Ok ask) built = ask_unranged o range ask built
