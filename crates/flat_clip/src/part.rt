@@ -8,6 +8,7 @@ ghost use Rattle.segment_model.specs.Grid.{SegmentGrid};
 ghost use Rattle.vod_source.specs.Calls.{Came};
 ghost use Rattle.vod_source.specs.Causes.{Rose};
 ghost use Rattle.vod_source.specs.Stored.{bytes_of as stored_bytes};
+ghost use Rattle.origin_model.specs.Clips.{asked_part as asked_part_of};
 ghost use Rattle.flat_clip.specs.Answers.{due_part, facts_part, held_part, part_reads_of, held_reads, part_view, IsClipRefusal};
 ghost use Rattle.flat_clip.specs.Rows.{cutting_of, facts_of, IsSmallClip};
 ghost use Rattle.flat_clip.specs.Tracks.{placed_view, track_view};
@@ -56,6 +57,7 @@ pub fn clip_part<S: Store>(
     ensures content { S.content files.new ≡ S.content files.old }
     ensures later { S.faults files.old ≤ S.faults files.new }
     ensures store_failed { IsErrOf result StoreFailed → Rose (S.faults files.old) (S.faults files.new) }
+    ensures asked { IfOk result (λ p. asked_part_of range p.length ≡ Ok (p.first, p.last)) }
     ensures refused { IfErr result (IsClipRefusal range) }
 {
     match clip_rows(alloc, files, timeline, sequence, asked, edits) {
@@ -78,6 +80,7 @@ fn part_of<S: Store>(
     ensures content { S.content files.new ≡ S.content files.old }
     ensures later { S.faults files.old ≤ S.faults files.new }
     ensures store_failed { IsErrOf result StoreFailed → Rose (S.faults files.old) (S.faults files.new) }
+    ensures asked { IfOk result (λ p. asked_part_of range p.length ≡ Ok (p.first, p.last)) }
     ensures refused { IfErr result (IsClipRefusal range) }
 {
     let _size = rows.file_size;
@@ -119,6 +122,7 @@ fn begun_part(
     range: Option<ByteRange>,
 ) -> Result<BegunPart, Refusal>
     requires small { IsSmallClip (facts_of rows.now) }
+    ensures asked { IfOk result (λ b. asked_part_of range b.length ≡ Ok b.part) }
     ensures part { IfOk result (λ b. facts_part range (facts_of rows.now) ≡ Ok b.part) }
     ensures length { IfOk result (λ b. b.length ≡ clip_size (track_view rows.now.video) (track_view rows.now.audio)) }
     ensures samples { IfOk result (λ b. map placed_view b.samples.items ≡ placed_rows (track_view rows.now.video) (track_view rows.now.audio)) }

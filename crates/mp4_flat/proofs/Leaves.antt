@@ -27,7 +27,7 @@ use Rattle.origin_model.specs.Bodies.{init_body, segment_body}
 use Rattle.origin_model.specs.Lists.{listed_segments, master_text, periods, shown_sequences}
 use Rattle.origin_model.specs.Loaded.{CheckedPiece, checked}
 use Rattle.origin_model.specs.Plans.{pieces_or_none}
-use Rattle.origin_model.specs.Reads.{sample_reads, turn_names, turn_pieces, turns}
+use Rattle.origin_model.specs.Reads.{ranged_reads, sample_reads, turn_names, turn_pieces, turns}
 use Rattle.origin_model.specs.Samples.{SegmentPlan}
 use Rattle.origin_model.specs.Requests.{Setup, Asking, honours_edits, grid_in_use, init_piece, timeline_asked}
 use Rattle.mp4_flat.specs.Inits.{init_names, part_init}
@@ -65,7 +65,7 @@ module _ (o : Setup) (a : Asking) (leaf : Leaf) {Y : Type 0} (due : Result Y Ref
   abbrev body_of_text : Y → Answer
   body_of_text y = Ok (leaf_body leaf (text y) whole)
 
-  module _ (answer_is : leaf_answer o a leaf ≡ (due >>= body_of_text)) (sampled : sample_reads o a leaf ≡ []) where
+  module _ (answer_is : leaf_answer o a leaf ≡ (due >>= body_of_text)) (sampled : ranged_reads o a None leaf ≡ []) where
     text_reads : leaf_reads o a leaf ≡ leaf_turns o a leaf
     text_reads = ap (λ (xs : List Read). leaf_turns o a leaf ++ xs) sampled ∙ append-nil (leaf_turns o a leaf)
 
@@ -93,11 +93,11 @@ module _ (o : Setup) (a : Asking) (leaf : Leaf) (due : Result SegmentPlan Refusa
   abbrev samples_due : SegmentPlan → Result (List Read) Refusal
   samples_due plan = Ok (body_reads o.files plan form)
 
-  module _ (answer_is : leaf_answer o a leaf ≡ (due >>= body_of_rows)) (sampled : sample_reads o a leaf ≡ result_unwrap_or (due >>= samples_due) []) where
+  module _ (answer_is : leaf_answer o a leaf ≡ (due >>= body_of_rows)) (sampled : ranged_reads o a None leaf ≡ result_unwrap_or (due >>= samples_due) []) where
     -- the rows were refused
     pub rows_refused : (e : Refusal) (log log_now : Option (List Read)) → Came {X = FlatRows} flat_plan (Err e) due (leaf_turns o a leaf) log log_now → IsLeafAnswer o a leaf (Err e) log log_now
     rows_refused e log log_now came =
-        ended flat_shown e (flat_seen (leaf_answer o a leaf)) (leaf_turns o a leaf) (sample_reads o a leaf) (leaf_reads o a leaf) log log_now
+        ended flat_shown e (flat_seen (leaf_answer o a leaf)) (leaf_turns o a leaf) (ranged_reads o a None leaf) (leaf_reads o a leaf) log log_now
         (λ known_memory known_store. ap flat_seen (answer_is ∙ ap (λ (r : Result SegmentPlan Refusal). r >>= body_of_rows) (came.answered known_memory known_store)))
         came.logged refl
         (λ known_memory known_store. sampled ∙ ap (λ (r : Result SegmentPlan Refusal). result_unwrap_or (r >>= samples_due) []) (came.answered known_memory known_store))

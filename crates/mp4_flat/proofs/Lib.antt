@@ -1,4 +1,5 @@
 pub mod AnsweredPaths
+pub mod ClipAnswers
 pub mod InitLemmas
 pub mod Leaves
 pub mod ListedPaths

@@ -16,10 +16,10 @@ use Rattle.segment_model.specs.Listing.{ListedSegment}
 use Rattle.list_model.specs.Path.{ask_of, is_local}
 use Rattle.vod_source.specs.Stored.{Read}
 use Rattle.vod_source.specs.Told.{told_with}
-use Rattle.origin_model.specs.Answers.{is_index, path_rows, readable, readable_as}
+use Rattle.origin_model.specs.Answers.{is_index, path_rows, readable_as}
 use Rattle.origin_model.specs.Lists.{listed_segments}
 use Rattle.origin_model.specs.Reads as reads
-use Rattle.origin_model.specs.Reads.{ask_reads, for_rows, further_names, looks_of, mapping_reads_by, path_reads, sample_reads, turn_names, turn_pieces, turns}
+use Rattle.origin_model.specs.Reads.{ask_reads, further_names, looks_of, mapping_reads_by, path_reads, sample_reads, turn_names, turn_pieces, turns}
 use Rattle.origin_model.specs.Requests.{Setup, Asking, asking_of}
 use Rattle.vod_types.specs.declared.segments.Listed.{Listed}
 use Rattle.vod_source.specs.Calls.{AnswersUnlessFailed, LogsReads, Came}
@@ -130,16 +130,15 @@ module _ {X : Type 0} (items : X → List Listed) (o : Setup) (path : List ℕ) 
       by_ask None is refused = (rows_none is ∙ cc, reads_none refusals.BadPath (readable_none is))
       by_ask (Some ask) is refused = absurd cc
 
-  readable_other : (ask : Ask) → ask_of path ≡ Some ask → is_index ask.leaf ≡ false → (e : Refusal) × (readable_as is_index path ≡ Err e)
+  readable_other : (ask : Ask) → ask_of path ≡ Some ask → is_index ask.leaf ≡ false → readable_as is_index path ≡ Err refusals.BadPath
   unfolding readable_as
-  readable_other ask e b = (refusals.Unsupported (codes "form"), rw (e, b) refl)
+  readable_other ask e b = rw (e, b) refl
 
   -- it is of another kind
   pub other_refused : (ask : Ask) (log : Option (List Read)) → ok_or (ask_of path) refusals.BadPath ≡ Ok ask → is_index ask.leaf ≡ false → AreListed o path (seen (Err refusals.BadPath)) log log
   other_refused ask log read other =
       let is = ok_or_ok (ask_of path) refusals.BadPath ask read in
-      let none = readable_other ask is other in
-      unread refusals.BadPath log (λ known_memory. rows_other ask is other) (λ known_memory. reads_none none.0 none.1)
+      unread refusals.BadPath log (λ known_memory. rows_other ask is other) (λ known_memory. reads_none refusals.BadPath (readable_other ask is other))
 
   reads_index : (ask : Ask) → readable_as is_index path ≡ Ok ask → reads_due ≡ ask_reads o [] false [] None ask
   unfolding path_reads
@@ -156,13 +155,9 @@ module _ {X : Type 0} (items : X → List Listed) (o : Setup) (path : List ℕ) 
       })
 
   -- a path of a media playlist is read
-  readable_rows : (ask : Ask) → ask_of path ≡ Some ask → is_index ask.leaf ≡ true → readable_as is_index path ≡ Ok ask
-  unfolding readable_as
-  readable_rows ask e b = rw (e, b) refl
-
   pub index_is_readable : (ask : Ask) (sequence : ℕ) (asked : Asked) → ok_or (ask_of path) refusals.BadPath ≡ Ok ask → ask.leaf ≡ Index sequence asked → IsErr (readable_as is_index path) → ⊥
   index_is_readable ask sequence asked read leaf err =
-      by_readable (readable_as is_index path) (readable_rows ask (ok_or_ok (ask_of path) refusals.BadPath ask read) (ap is_index leaf)) err
+      by_readable (readable_as is_index path) (readable_index ask (ok_or_ok (ask_of path) refusals.BadPath ask read) (ap is_index leaf)) err
     where
       by_readable : (r : Result Ask Refusal) → r ≡ Ok ask → IsErr r → ⊥
       by_readable (Ok found) e err = absurd cc

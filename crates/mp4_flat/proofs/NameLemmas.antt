@@ -16,11 +16,11 @@ use Rattle.vod_types.specs.declared.tracks.Kind.TheVariants.{Video, Audio}
 use Rattle.list_model.specs.declared.Period.{Period}
 use Rattle.list_model.specs.declared.Rep.{Rep}
 use Rattle.list_model.specs.Manifest.{IsPeriod}
-use Rattle.list_model.specs.Names.{IsAsked, first_of_kind}
+use Rattle.list_model.specs.Names.{IsLeafOf, IsAsked, first_of_kind}
 use Rattle.list_model.specs.Pack.{init_leaves, is_listed_of}
 use Rattle.list_model.specs.Playlist.{HasRowNumbers}
 use Rattle.flat_lists.specs.Listings.{HasPart}
-use Rattle.mp4_flat.specs.Packed.{IsName, named_inits}
+use Rattle.mp4_flat.specs.Packed.{named_inits}
 
 -- ---- what holds of each
 
@@ -90,24 +90,24 @@ rows_numbered view (Err r) ls given same h is = tt
 -- ---- init segments
 
 module _ (dash : Bool) (sequence : ℕ) (asked : Asked) (low : sequence ≤ 9999) (numbers : IsAsked asked) where
-  one_init : (part : ℕ) → part ≤ 9999 → IsName dash (Init part sequence asked)
-  one_init part fits = ((fits, low, numbers), refl)
+  one_init : (part : ℕ) → part ≤ 9999 → IsLeafOf dash (Init part sequence asked)
+  one_init part fits = (fits, low, numbers)
 
   -- those of rows
-  rows_named : (rows : List SegmentRow) → All HasRowNumbers rows → All (IsName dash) (map (λ row. Init row.part sequence asked) rows)
-  rows_named [] h = All-nil (IsName dash)
+  rows_named : (rows : List SegmentRow) → All HasRowNumbers rows → All (IsLeafOf dash) (map (λ row. Init row.part sequence asked) rows)
+  rows_named [] h = All-nil (IsLeafOf dash)
   rows_named (row ∷ rows) h =
-      All-cons (IsName dash) (Init row.part sequence asked) (map (λ row. Init row.part sequence asked) rows) (one_init row.part (All-head HasRowNumbers row rows h))
+      All-cons (IsLeafOf dash) (Init row.part sequence asked) (map (λ row. Init row.part sequence asked) rows) (one_init row.part (All-head HasRowNumbers row rows h))
       (rows_named rows (All-tail HasRowNumbers row rows h))
 
-  pub inits_named : (fmp4 : Bool) (rows : List SegmentRow) → All HasRowNumbers rows → All (IsName dash) (named_inits fmp4 sequence asked rows)
+  pub inits_named : (fmp4 : Bool) (rows : List SegmentRow) → All HasRowNumbers rows → All (IsLeafOf dash) (named_inits fmp4 sequence asked rows)
   inits_named true rows h = rows_named (filter (λ row. row.first_in_part) rows) (All-filter (λ row. row.first_in_part) HasRowNumbers rows h)
-  inits_named false rows h = All-nil (IsName dash)
+  inits_named false rows h = All-nil (IsLeafOf dash)
 
   -- those of representations of a part
-  reps_named : (part : ℕ) → part ≤ 9999 → (reps : List Rep) → All (IsName dash) (map (λ rep. Init part sequence asked) reps)
-  reps_named part fits [] = All-nil (IsName dash)
-  reps_named part fits (rep ∷ reps) = All-cons (IsName dash) (Init part sequence asked) (map (λ rep. Init part sequence asked) reps) (one_init part fits) (reps_named part fits reps)
+  reps_named : (part : ℕ) → part ≤ 9999 → (reps : List Rep) → All (IsLeafOf dash) (map (λ rep. Init part sequence asked) reps)
+  reps_named part fits [] = All-nil (IsLeafOf dash)
+  reps_named part fits (rep ∷ reps) = All-cons (IsLeafOf dash) (Init part sequence asked) (map (λ rep. Init part sequence asked) reps) (one_init part fits) (reps_named part fits reps)
 
 kind_numbers : (kind : Kind) → IsAsked (first_of_kind kind)
 kind_numbers Video = (omega arith, omega arith)
@@ -115,10 +115,10 @@ kind_numbers Audio = (omega arith, omega arith)
 
 -- those of a track in all periods
 module _ (sequence : ℕ) (kind : Kind) (low : sequence ≤ 9999) where
-  pub periods_named : (periods : List Period) → All IsPeriod periods → All (IsName true) (init_leaves sequence kind periods)
-  periods_named [] h = All-nil (IsName true)
+  pub periods_named : (periods : List Period) → All IsPeriod periods → All (IsLeafOf true) (init_leaves sequence kind periods)
+  periods_named [] h = All-nil (IsLeafOf true)
   periods_named (period ∷ periods) h =
-      All-append (IsName true) (map (λ rep. Init period.part sequence (first_of_kind kind)) (filter (is_listed_of sequence kind) period.reps)) (init_leaves sequence kind periods)
+      All-append (IsLeafOf true) (map (λ rep. Init period.part sequence (first_of_kind kind)) (filter (is_listed_of sequence kind) period.reps)) (init_leaves sequence kind periods)
       (reps_named true sequence (first_of_kind kind) low (kind_numbers kind) period.part (All-head IsPeriod period periods h).part (filter (is_listed_of sequence kind) period.reps))
       (periods_named periods (All-tail IsPeriod period periods h))
 

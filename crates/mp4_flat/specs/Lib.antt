@@ -1,4 +1,4 @@
-pub mod Built
+pub mod Asks
 pub mod Flat
 pub mod Inits
 pub mod Listings

@@ -8,15 +8,11 @@ use Rattle.vod_types.specs.Results.{◌>>=◌}
 use Rattle.vod_types.specs.declared.segments.Listed.{Listed}
 use Rattle.segment_model.specs.Listing.{ListedSegment, listed_view}
 use Rattle.vod_source.specs.Stored.{Read}
-use Rattle.origin_model.specs.Answers.{path_rows}
+use Rattle.origin_model.specs.Answers.{is_index, path_rows}
 use Rattle.origin_model.specs.Lists.{listed_segments}
-use Rattle.origin_model.specs.Reads.{AreReads, for_rows, turn_names, turns}
+use Rattle.origin_model.specs.Reads.{AreReads, turn_names, turns}
 use Rattle.origin_model.specs.Requests.{Setup, Asking, asking_of}
 use Rattle.vod_source.specs.Calls.{AnswersUnlessFailed, LogsReads}
-
--- the rows of every media playlist are listed, whether it is answered yet or not
-abbrev pub every_path : Ask → Bool
-every_path ask = true
 
 -- the listed rows of a path, or the refusal of its playlist, and these reads were made for them
 pub record AreListed (o : Setup) (path : List ℕ) (result : Result (List Listed) Refusal) (log log_now : Option (List Read)) : Type 0 where

@@ -24,7 +24,6 @@ use Rattle.origin_model.specs.Requests.{Setup, Asking, asking_of}
 use Rattle.flat_lists.specs.declared.shown.Shown.{Shown}
 use Rattle.flat_lists.specs.Shown.{all_shown}
 use Rattle.flat_segments.specs.declared.body.FlatBody.{FlatBody}
-use Rattle.mp4_flat.specs.Built.{is_built_leaf}
 use Rattle.mp4_flat.specs.declared.entries.PackEnd.{PackEnd}
 use Rattle.mp4_flat.specs.declared.entries.PackEnd.TheVariants.{Whole, Refused, SinkFailed}
 
@@ -33,10 +32,6 @@ abbrev pub IsOfProtocol : Leaf → Type 0
 IsOfProtocol leaf = (dash : Bool) × IsLeafOf dash leaf
 
 -- ---- names
-
--- a name of a protocol whose form is built
-abbrev pub IsName : Bool → Leaf → Type 0
-IsName dash leaf = IsLeafOf dash leaf × (is_built_leaf leaf ≡ true)
 
 -- a refusal that is none of what was asked
 abbrev pub HasFailed : Refusal → Type 0
@@ -105,5 +100,5 @@ abbrev pub packed_asked : Setup → Ask → List ℕ × Option Refusal
 packed_asked o ask = packed_asking o ask (asking_of o ask)
 
 -- that of a path
-abbrev pub IsPacked : (Ask → Bool) → Setup → List ℕ → PackEnd → Option (List ℕ) → Option (List ℕ) → Type 0
+abbrev pub IsPacked : Setup → List ℕ → PackEnd → Option (List ℕ) → Option (List ℕ) → Type 0
 IsPacked o path end before now = IsPackedAs (packed_path o path) end before now

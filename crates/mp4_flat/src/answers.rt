@@ -1,24 +1,24 @@
 //! What a name is answered with, once it is known what its request is about.
 
-ghost use Rattle.std.specs.Prelude.{◌≡◌, ◌≢◌, ◌≤◌, true, IfErr, IfOk, IfSome, IsErrOf, codes};
+ghost use Rattle.std.specs.Prelude.{◌≡◌, ◌≤◌, true, IfErr, IfOk, IfSome, IsErrOf};
 ghost use Rattle.vod_source.specs.Causes.{Rose};
-ghost use Rattle.vod_types.specs.declared.refusal.Refusal.TheVariants.{NoMemory, StoreFailed, Unsupported};
+ghost use Rattle.vod_types.specs.declared.refusal.Refusal.TheVariants.{StoreFailed};
 ghost use Rattle.flat_segments.specs.Bodies.{IsInPackets};
 ghost use Rattle.flat_lists.specs.Asked.{asking_view, setup_of};
 ghost use Rattle.answer_laws.specs.Refusals.{IsPathRefusal};
-ghost use Rattle.mp4_flat.specs.Built.{is_built_leaf};
 ghost use Rattle.mp4_flat.specs.Flat.{is_stream, IsLeafAnswer};
 ghost use Rattle.mp4_flat.specs.Packed.{IsOfProtocol};
 
+use crate::clips::clip_answer;
 use crate::lists::{description_answer, iframes_answer, index_answer, master_answer};
 use crate::segments::{iframe_answer, init_answer, segment_answer};
 use flat_lists::Asking;
 use flat_segments::FlatBody;
 use std::alloc::Global;
 use vod_source::Store;
-use vod_types::{Leaf, Name, Refusal, Settings};
+use vod_types::{Leaf, Refusal, Settings};
 
-/// Answers a name that isn't a clip's.
+/// Answers a name.
 pub(crate) fn leaf_answer<S: Store>(
     alloc: Global,
     files: &mut S,
@@ -27,8 +27,7 @@ pub(crate) fn leaf_answer<S: Store>(
     asking: &Asking,
     leaf: Leaf,
 ) -> Result<FlatBody, Refusal>
-    requires built { is_built_leaf leaf ≡ true }
-    requires leaf { IsOfProtocol leaf }
+    requires { IsOfProtocol leaf }
     ensures told { IfSome (S.content files.old) (λ known.
         IsLeafAnswer (setup_of settings.now root.now known) (asking_view asking.now) leaf result
         (S.log files.old) (S.log files.new)) }
@@ -68,18 +67,8 @@ pub(crate) fn leaf_answer<S: Store>(
         } => iframe_answer(
             alloc, files, settings, root, asking, number, index, sequence, video,
         ),
-        Leaf::Clip { .. } => Err(unbuilt(alloc)),
-    }
-}
-
-/// The refusal of a form that isn't built yet.
-pub(crate) fn unbuilt(alloc: Global) -> Refusal
-    ensures form { result ≢ NoMemory → result ≡ Unsupported (codes "form") }
-    ensures none_failed { result ≢ StoreFailed }
-    ensures refused { IsPathRefusal result }
-{
-    match Name::new(alloc, "form") {
-        Ok(name) => Refusal::Unsupported { name },
-        Err(refusal) => refusal,
+        Leaf::Clip { sequence, asked } => {
+            clip_answer(alloc, files, settings, root, asking, sequence, asked)
+        }
     }
 }

@@ -8,12 +8,12 @@ ghost use Rattle.vod_types.specs.declared.refusal.Refusal.TheVariants.{NoMemory,
 ghost use Rattle.vod_types.specs.Tracks.{same_kind};
 ghost use Rattle.vod_source.specs.Causes.{Rose};
 ghost use Rattle.list_model.specs.Manifest.{IsPeriod};
-ghost use Rattle.list_model.specs.Names.{IsAsked, first_of_kind};
+ghost use Rattle.list_model.specs.Names.{IsLeafOf, IsAsked, first_of_kind};
 ghost use Rattle.list_model.specs.Pack.{fragment_leaves, init_leaves, is_listed_of, track_leaves};
 ghost use Rattle.origin_model.specs.Lists.{periods as periods_of};
 ghost use Rattle.origin_model.specs.Packaging.{packed_leaves};
 ghost use Rattle.flat_lists.specs.Asked.{asking_view, setup_of};
-ghost use Rattle.mp4_flat.specs.Packed.{HasFailed, IsName, described_leaves, rep_fragments};
+ghost use Rattle.mp4_flat.specs.Packed.{HasFailed, described_leaves, rep_fragments};
 
 use crate::packaging::has_failed;
 use crate::packed_names::{push, push_segments};
@@ -34,7 +34,7 @@ pub(crate) fn dash_names<S: Store>(
 ) -> Result<Vec<Leaf>, Refusal>
     ensures told { IfSome (S.content files.old) (λ known.
         IfOk result (λ names. names.items ≡ packed_leaves (setup_of settings.now root.now known) (asking_view asking.now) Mpd)) }
-    ensures each { IfOk result (λ names. All (IsName true) names.items) }
+    ensures each { IfOk result (λ names. All (IsLeafOf true) names.items) }
     ensures failed { IfErr result HasFailed }
     ensures content { S.content files.new ≡ S.content files.old }
     ensures later { S.faults files.old ≤ S.faults files.new }
@@ -87,7 +87,7 @@ fn push_described(names: &mut Vec<Leaf>, sequences: u32, periods: &[Period]) -> 
     requires few { sequences ≤ 9999 }
     requires periods { All IsPeriod periods.now }
     ensures names { OnOk result (names.new.items ≡ names.old.items ++ flat_map (described_leaves periods.now) (range_with_len 1 sequences)) }
-    ensures each { OnOk result (All (IsName true) names.old.items → All (IsName true) names.new.items) }
+    ensures each { OnOk result (All (IsLeafOf true) names.old.items → All (IsLeafOf true) names.new.items) }
     ensures only { IfErr result (λ refusal. refusal ≡ NoMemory) }
 {
     for before in 0..sequences {
@@ -101,7 +101,7 @@ fn push_sequence(names: &mut Vec<Leaf>, sequence: u32, periods: &[Period]) -> Re
     requires sequence { sequence ≤ 9999 }
     requires periods { All IsPeriod periods.now }
     ensures names { OnOk result (names.new.items ≡ names.old.items ++ described_leaves periods.now sequence) }
-    ensures each { OnOk result (All (IsName true) names.old.items → All (IsName true) names.new.items) }
+    ensures each { OnOk result (All (IsLeafOf true) names.old.items → All (IsLeafOf true) names.new.items) }
     ensures only { IfErr result (λ refusal. refusal ≡ NoMemory) }
 {
     push_track(names, sequence, Kind::Video, periods)?;
@@ -118,7 +118,7 @@ fn push_track(
     requires sequence { sequence ≤ 9999 }
     requires periods { All IsPeriod periods.now }
     ensures names { OnOk result (names.new.items ≡ names.old.items ++ track_leaves periods.now sequence kind) }
-    ensures each { OnOk result (All (IsName true) names.old.items → All (IsName true) names.new.items) }
+    ensures each { OnOk result (All (IsLeafOf true) names.old.items → All (IsLeafOf true) names.new.items) }
     ensures only { IfErr result (λ refusal. refusal ≡ NoMemory) }
 {
     push_inits(names, sequence, kind, periods)?;
@@ -189,7 +189,7 @@ fn push_fragments(
 ) -> Result<(), Refusal>
     requires sequence { sequence ≤ 9999 }
     ensures names { OnOk result (names.new.items ≡ names.old.items ++ fragment_leaves sequence kind periods.now) }
-    ensures each { OnOk result (All (IsName true) names.old.items → All (IsName true) names.new.items) }
+    ensures each { OnOk result (All (IsLeafOf true) names.old.items → All (IsLeafOf true) names.new.items) }
     ensures only { IfErr result (λ refusal. refusal ≡ NoMemory) }
 {
     for period in periods {
@@ -207,7 +207,7 @@ fn push_period_fragments(
 ) -> Result<(), Refusal>
     requires sequence { sequence ≤ 9999 }
     ensures names { OnOk result (names.new.items ≡ names.old.items ++ flat_map (rep_fragments sequence kind) (filter (is_listed_of sequence kind) period.now.reps)) }
-    ensures each { OnOk result (All (IsName true) names.old.items → All (IsName true) names.new.items) }
+    ensures each { OnOk result (All (IsLeafOf true) names.old.items → All (IsLeafOf true) names.new.items) }
     ensures only { IfErr result (λ refusal. refusal ≡ NoMemory) }
 {
     push_rep_fragments(names, sequence, kind, period.reps.as_slice())
@@ -222,7 +222,7 @@ fn push_rep_fragments(
 ) -> Result<(), Refusal>
     requires sequence { sequence ≤ 9999 }
     ensures names { OnOk result (names.new.items ≡ names.old.items ++ flat_map (rep_fragments sequence kind) (filter (is_listed_of sequence kind) reps.now)) }
-    ensures each { OnOk result (All (IsName true) names.old.items → All (IsName true) names.new.items) }
+    ensures each { OnOk result (All (IsLeafOf true) names.old.items → All (IsLeafOf true) names.new.items) }
     ensures only { IfErr result (λ refusal. refusal ≡ NoMemory) }
 {
     for rep in reps {
@@ -235,7 +235,7 @@ fn push_rep_fragments(
 fn push_rep(names: &mut Vec<Leaf>, sequence: u32, kind: Kind, rep: &Rep) -> Result<(), Refusal>
     requires sequence { sequence ≤ 9999 }
     ensures names { OnOk result (names.new.items ≡ names.old.items ++ (if is_listed_of sequence kind rep.now then rep_fragments sequence kind rep.now else [])) }
-    ensures each { OnOk result (All (IsName true) names.old.items → All (IsName true) names.new.items) }
+    ensures each { OnOk result (All (IsLeafOf true) names.old.items → All (IsLeafOf true) names.new.items) }
     ensures only { IfErr result (λ refusal. refusal ≡ NoMemory) }
 {
     if !is_listed(sequence, kind, rep) {

@@ -4,13 +4,13 @@ ghost use Rattle.std.specs.Prelude.{◌≡◌, ◌≤◌, ◌++◌, false, All, 
 ghost use Rattle.vod_types.specs.declared.paths.Leaf.TheVariants.{Master};
 ghost use Rattle.vod_types.specs.declared.refusal.Refusal.TheVariants.{StoreFailed};
 ghost use Rattle.vod_source.specs.Causes.{Rose};
-ghost use Rattle.list_model.specs.Names.{IsAsked};
+ghost use Rattle.list_model.specs.Names.{IsLeafOf, IsAsked};
 ghost use Rattle.list_model.specs.Playlist.{HasRowNumbers};
 ghost use Rattle.origin_model.specs.Lists.{listed_segments};
 ghost use Rattle.origin_model.specs.Packaging.{packed_leaves, rows_or_none as rows_or_none_of};
 ghost use Rattle.flat_lists.specs.Asked.{asking_view, setup_of};
 ghost use Rattle.flat_lists.specs.Shown.{IsShown};
-ghost use Rattle.mp4_flat.specs.Packed.{HasFailed, IsName, sequence_leaves, shown_leaves, shown_or_none as shown_or_none_of};
+ghost use Rattle.mp4_flat.specs.Packed.{HasFailed, sequence_leaves, shown_leaves, shown_or_none as shown_or_none_of};
 
 use crate::listing::sequence_rows;
 use crate::packaging::has_failed;
@@ -31,7 +31,7 @@ pub(crate) fn hls_names<S: Store>(
 ) -> Result<Vec<Leaf>, Refusal>
     ensures told { IfSome (S.content files.old) (λ known.
         IfOk result (λ names. names.items ≡ packed_leaves (setup_of settings.now root.now known) (asking_view asking.now) Master)) }
-    ensures each { IfOk result (λ names. All (IsName false) names.items) }
+    ensures each { IfOk result (λ names. All (IsLeafOf false) names.items) }
     ensures failed { IfErr result HasFailed }
     ensures content { S.content files.new ≡ S.content files.old }
     ensures later { S.faults files.old ≤ S.faults files.new }
@@ -92,7 +92,7 @@ fn push_sequences<S: Store>(
     requires each { All (IsShown (length asking.now.mapping.sequences)) shown.now }
     ensures told { IfSome (S.content files.old) (λ known.
         OnOk result (names.new.items ≡ names.old.items ++ shown_leaves (setup_of settings.now root.now known) (asking_view asking.now) shown.now)) }
-    ensures each { OnOk result (All (IsName false) names.old.items → All (IsName false) names.new.items) }
+    ensures each { OnOk result (All (IsLeafOf false) names.old.items → All (IsLeafOf false) names.new.items) }
     ensures failed { IfErr result HasFailed }
     ensures content { S.content files.new ≡ S.content files.old }
     ensures later { S.faults files.old ≤ S.faults files.new }
@@ -131,7 +131,7 @@ fn push_sequence<S: Store>(
     requires asked { IsAsked asked }
     ensures told { IfSome (S.content files.old) (λ known.
         OnOk result (names.new.items ≡ names.old.items ++ sequence_leaves (setup_of settings.now root.now known) (asking_view asking.now) sequence asked)) }
-    ensures each { OnOk result (All (IsName false) names.old.items → All (IsName false) names.new.items) }
+    ensures each { OnOk result (All (IsLeafOf false) names.old.items → All (IsLeafOf false) names.new.items) }
     ensures failed { IfErr result HasFailed }
     ensures content { S.content files.new ≡ S.content files.old }
     ensures later { S.faults files.old ≤ S.faults files.new }

@@ -3,6 +3,7 @@
 #![tactic(auto)]
 
 mod answers;
+mod clips;
 mod dash_names;
 mod entries;
 mod hls_names;
@@ -17,11 +18,13 @@ mod requests;
 mod segments;
 mod sequence;
 
+pub use clips::clip_ask;
 pub use entries::PackEnd;
+pub use flat_clip::ClipPart;
 pub use flat_segments::FlatBody;
 pub use listing::listed;
 pub use lists::iframe_playlist_of;
 pub use packs::pack;
 pub use playlist::playlist_of;
-pub use requests::{answer, answer_ask, built_ask};
+pub use requests::{answer, answer_ask, path_ask};
 pub use vod_types::Listed;

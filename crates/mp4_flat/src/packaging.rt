@@ -6,8 +6,9 @@ ghost use Rattle.vod_types.specs.declared.refusal.Refusal.TheVariants.{NoMemory,
 ghost use Rattle.vod_source.specs.Causes.{Rose};
 ghost use Rattle.origin_model.specs.Answers.{leaf_answer as leaf_answer_of};
 ghost use Rattle.flat_lists.specs.Asked.{asking_view, setup_of};
+ghost use Rattle.list_model.specs.Names.{IsLeafOf};
 ghost use Rattle.mp4_flat.specs.declared.entries.PackEnd.TheVariants as ends;
-ghost use Rattle.mp4_flat.specs.Packed.{IsName, IsPackedAs};
+ghost use Rattle.mp4_flat.specs.Packed.{IsPackedAs};
 
 use crate::answers::leaf_answer;
 use crate::entries::{PackEnd, put_body, put_refusal};
@@ -28,7 +29,7 @@ pub(crate) fn put_names<S: Store, K: Sink>(
     leaves: &[Leaf],
     out: &mut K,
 ) -> PackEnd
-    requires leaves { All (IsName dash) leaves.now }
+    requires leaves { All (IsLeafOf dash) leaves.now }
     ensures told { IfSome (S.content files.old) (λ known.
         IsPackedAs (pack dash (leaf_answer_of (setup_of settings.now root.now known) (asking_view asking.now)) leaves.now) result
         (K.written out.old) (K.written out.new)) }
@@ -60,7 +61,7 @@ fn put_name<S: Store, K: Sink>(
     leaf: Leaf,
     out: &mut K,
 ) -> PackEnd
-    requires leaf { IsName dash leaf }
+    requires leaf { IsLeafOf dash leaf }
     ensures told { IfSome (S.content files.old) (λ known.
         IsPackedAs (pack dash (leaf_answer_of (setup_of settings.now root.now known) (asking_view asking.now)) (leaf ∷ [])) result
         (K.written out.old) (K.written out.new)) }

@@ -3,10 +3,10 @@
 ghost use Rattle.std.specs.Prelude.{◌≡◌, ◌≤◌, ◌++◌, ◌∷◌, [], All, Bool, false, OnOk, IfErr, filter, map};
 ghost use Rattle.vod_types.specs.declared.paths.Leaf.TheVariants.{Init, Segment};
 ghost use Rattle.vod_types.specs.declared.refusal.Refusal.TheVariants.{NoMemory};
-ghost use Rattle.list_model.specs.Names.{IsAsked, IsFormOf};
+ghost use Rattle.list_model.specs.Names.{IsLeafOf, IsAsked, IsFormOf};
 ghost use Rattle.list_model.specs.Pack.{playlist_leaves};
 ghost use Rattle.list_model.specs.Playlist.{HasRowNumbers, segment_form as segment_form_of};
-ghost use Rattle.mp4_flat.specs.Packed.{IsName, named_inits};
+ghost use Rattle.mp4_flat.specs.Packed.{named_inits};
 
 use vod_types::{Asked, Form, Leaf, Refusal, SegmentRow};
 
@@ -23,7 +23,7 @@ pub(crate) fn push_playlist(
     requires sequence { sequence ≤ 9999 }
     requires asked { IsAsked asked }
     ensures names { OnOk result (names.new.items ≡ names.old.items ++ playlist_leaves fmp4 sequence asked rows.now) }
-    ensures each { OnOk result (All (IsName false) names.old.items → All (IsName false) names.new.items) }
+    ensures each { OnOk result (All (IsLeafOf false) names.old.items → All (IsLeafOf false) names.new.items) }
     ensures only { IfErr result (λ refusal. refusal ≡ NoMemory) }
 {
     push_named_inits(names, rows, sequence, asked, fmp4)?;
@@ -92,7 +92,7 @@ pub(crate) fn push_segments(
     requires sequence { sequence ≤ 9999 }
     requires asked { IsAsked asked }
     ensures names { OnOk result (names.new.items ≡ names.old.items ++ map (λ row. Segment row.number sequence asked form) rows.now) }
-    ensures each { OnOk result ((dash : Bool) → IsFormOf dash form → All (IsName dash) names.old.items → All (IsName dash) names.new.items) }
+    ensures each { OnOk result ((dash : Bool) → IsFormOf dash form → All (IsLeafOf dash) names.old.items → All (IsLeafOf dash) names.new.items) }
     ensures only { IfErr result (λ refusal. refusal ≡ NoMemory) }
 {
     for row in rows {
@@ -112,7 +112,7 @@ fn push_segment(
     requires sequence { sequence ≤ 9999 }
     requires asked { IsAsked asked }
     ensures names { OnOk result (names.new.items ≡ names.old.items ++ Segment number sequence asked form ∷ []) }
-    ensures each { OnOk result ((dash : Bool) → IsFormOf dash form → All (IsName dash) names.old.items → All (IsName dash) names.new.items) }
+    ensures each { OnOk result ((dash : Bool) → IsFormOf dash form → All (IsLeafOf dash) names.old.items → All (IsLeafOf dash) names.new.items) }
     ensures only { IfErr result (λ refusal. refusal ≡ NoMemory) }
 {
     push(
@@ -129,7 +129,7 @@ fn push_segment(
 /// Appends a name. The only refusal is `NoMemory`.
 pub(crate) fn push(names: &mut Vec<Leaf>, leaf: Leaf) -> Result<(), Refusal>
     ensures names { OnOk result (names.new.items ≡ names.old.items ++ leaf ∷ []) }
-    ensures each { OnOk result ((dash : Bool) → IsName dash leaf → All (IsName dash) names.old.items → All (IsName dash) names.new.items) }
+    ensures each { OnOk result ((dash : Bool) → IsLeafOf dash leaf → All (IsLeafOf dash) names.old.items → All (IsLeafOf dash) names.new.items) }
     ensures only { IfErr result (λ refusal. refusal ≡ NoMemory) }
 {
     match names.push(leaf) {

@@ -11,7 +11,7 @@ ghost use Rattle.origin_model.specs.Packaging.{is_packed as is_packed_of, packed
 ghost use Rattle.origin_model.specs.Requests.{target_names};
 ghost use Rattle.flat_lists.specs.Asked.{asking_view, setup_of};
 ghost use Rattle.mp4_flat.specs.declared.entries.PackEnd.TheVariants as ends;
-ghost use Rattle.mp4_flat.specs.Packed.{HasFailed, IsName, IsPacked, IsPackedAs, is_description as is_description_of, packed_asked};
+ghost use Rattle.mp4_flat.specs.Packed.{HasFailed, IsPacked, IsPackedAs, is_description as is_description_of, packed_asked};
 
 use crate::dash_names::dash_names;
 use crate::entries::PackEnd;
@@ -148,7 +148,7 @@ fn names_of<S: Store>(
     requires packed { is_packed_of leaf ≡ true }
     ensures told { IfSome (S.content files.old) (λ known.
         IfOk result (λ names. names.items ≡ packed_leaves (setup_of settings.now root.now known) (asking_view asking.now) leaf)) }
-    ensures each { IfOk result (λ names. All (IsName (is_description_of leaf)) names.items) }
+    ensures each { IfOk result (λ names. All (IsLeafOf (is_description_of leaf)) names.items) }
     ensures failed { IfErr result HasFailed }
     ensures content { S.content files.new ≡ S.content files.old }
     ensures later { S.faults files.old ≤ S.faults files.new }

@@ -11,10 +11,8 @@ use Rattle.answer_laws.proofs.Answers.{ask_answered}
 use Rattle.answer_laws.specs.Laws.{IsLeafAnswer}
 use Rattle.flat_segments.specs.Bodies.{cut_of, flat_shown}
 use Rattle.flat_segments.specs.declared.body.FlatBody.{FlatBody}
-use Rattle.mp4_flat.specs.Built.{is_built_leaf}
 use Rattle.mp4_flat.specs.Flat.{flat_seen}
 use Rattle.vod_origin.specs.Bodies.{end_of}
-use Rattle.vod_origin.specs.Ranges.{ask_unranged}
 
 pub end-cut : (end : End) → end_of (cut_of end) ≡ end
 end-cut whole = refl
@@ -28,9 +26,9 @@ module _ (o : Setup) (path : List ℕ) (range : Option ByteRange) where
   answer-refused e read = ap (λ (r : Result Ask Refusal). r >>= ask_answer o range) read
 
   -- it is that of what it asks for
-  pub answer-read : (ask : Ask) → readable path ≡ Ok ask → is_built_leaf ask.leaf ≡ true → answer o path range ≡ ask_answer o None ask
+  pub answer-read : (ask : Ask) → readable path ≡ Ok ask → answer o path range ≡ ask_answer o range ask
   unfolding answer
-  answer-read ask read built = ap (λ (r : Result Ask Refusal). r >>= ask_answer o range) read ∙ ask_unranged o range ask built
+  answer-read ask read = ap (λ (r : Result Ask Refusal). r >>= ask_answer o range) read
 
 -- ---- requests
 

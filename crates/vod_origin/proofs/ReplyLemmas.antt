@@ -10,14 +10,14 @@ use Rattle.vod_types.specs.Settled.{Settled}
 use Rattle.list_model.specs.Reply.{Answer, End, leaf_body, leaf_media, told_length}
 use Rattle.vod_source.specs.Causes.{Rose}
 use Rattle.vod_source.specs.Stored.{Files}
-use Rattle.vod_http.specs.Answered.{HasLength, IsHeadOf, IsRefused, rest_of}
+use Rattle.vod_http.specs.Answered.{HasLength, IsHeadOf, IsRefused, MayRefuse, rest_of}
 use Rattle.vod_http.specs.declared.answerer.Reply.TheVariants.{Body, Refused}
 use Rattle.origin_model.specs.Answers.{ask_answer, readable}
 use Rattle.answer_laws.specs.Refusals.{IsPathRefusal}
 use Rattle.flat_lists.specs.Asked.{setup_of}
-use Rattle.mp4_flat.specs.Built.{is_built_leaf}
-use Rattle.vod_origin.specs.AnswerLaw.{may_refuse}
-use Rattle.vod_origin.specs.Begun.{asked_answer, Begins, Replies}
+use Rattle.vod_origin.specs.Ranges.{ask_unranged, clip_of}
+use Rattle.vod_origin.specs.Refusals.{may_refuse}
+use Rattle.vod_origin.specs.Begun.{asked_answer, asked_part, Begins, Replies}
 use Rattle.vod_origin.specs.Bodies.{rest_in, rest_with}
 use Rattle.vod_origin.specs.declared.cursor.Cursor.{Cursor}
 use Rattle.vod_origin.specs.Kept.{OriginKept, origin_answer}
@@ -25,11 +25,11 @@ use Rattle.vod_origin.proofs.Answers.{answer-read, answer-refused}
 
 -- ---- refusals
 
-refused_as : (range : Option ByteRange) (told : Option Answer) (before now : ℕ) (e : Refusal) → IsPathRefusal e → (e ≡ StoreFailed → Rose before now)
+pub refused_as : (range : Option ByteRange) (told : Option Answer) (before now : ℕ) (e : Refusal) → MayRefuse range e → (e ≡ StoreFailed → Rose before now)
     → (e ≢ NoMemory → e ≢ StoreFailed → IfSome told (λ a. a ≡ Err e)) → IsRefused range told before now e
 refused_as range told before now refusals.StoreFailed may rose is = rose refl
 refused_as range told before now refusals.NoMemory may rose is = tt
-refused_as range told before now why may rose is = (may_refuse range why may, is (λ same. absurd cc) (λ same. absurd cc))
+refused_as range told before now why may rose is = (may, is (λ same. absurd cc) (λ same. absurd cc))
 
 -- nothing was begun
 pub none_begun : (told : Option Answer) (content : Option Files) (e : Refusal) → Begins told content (Refused e)
@@ -42,8 +42,8 @@ module _ (settings : Settled) (root : List ℕ) (ask : Ask) where
   pub refused : (content : Option Files) (before now : ℕ) (e : Refusal) → IsPathRefusal e → (e ≡ StoreFailed → Rose before now)
       → IfSome content (λ files. e ≢ NoMemory → e ≢ StoreFailed → ask_answer (setup_of settings root files) None ask ≡ Err e)
       → Replies (asked_answer settings root ask content) before now (Refused e)
-  refused None before now e may rose told = λ range. refused_as range None before now e may rose (λ known_memory known_store. tt)
-  refused (Some files) before now e may rose told = λ range. refused_as range (Some (ask_answer (setup_of settings root files) None ask)) before now e may rose told
+  refused None before now e may rose told = λ range. refused_as range None before now e (may_refuse range e may) rose (λ known_memory known_store. tt)
+  refused (Some files) before now e may rose told = λ range. refused_as range (Some (ask_answer (setup_of settings root files) None ask)) before now e (may_refuse range e may) rose told
 
   module _ (bytes : Files → List ℕ) (end : Files → End) where
     -- where files are told, it is answered with these bytes
@@ -66,17 +66,25 @@ module _ (settings : Settled) (root : List ℕ) (ask : Ask) where
 
 module _ (k : OriginKept) (path : List ℕ) (range : Option ByteRange) where
   -- the answer of a path is that of what it asks for
-  pub path_told : (ask : Ask) → readable path ≡ Ok ask → is_built_leaf ask.leaf ≡ true → origin_answer k path range ≡ asked_answer k.settings k.root ask k.content
-  path_told ask read built = by_content k.content
+  pub path_told : (ask : Ask) → readable path ≡ Ok ask → origin_answer k path range ≡ asked_part k.settings k.root range ask k.content
+  path_told ask read = by_content k.content
     where
-      by_content : (content : Option Files) → origin_answer (record k { content = content }) path range ≡ asked_answer k.settings k.root ask content
+      by_content : (content : Option Files) → origin_answer (record k { content = content }) path range ≡ asked_part k.settings k.root range ask content
       by_content None = refl
-      by_content (Some files) = ap Some (answer-read (setup_of k.settings k.root files) path range ask read built)
+      by_content (Some files) = ap Some (answer-read (setup_of k.settings k.root files) path range ask read)
+
+  -- whatever range is asked for, unless it is a clip
+  pub path_unranged : (ask : Ask) → readable path ≡ Ok ask → clip_of ask.leaf ≡ None → origin_answer k path range ≡ asked_answer k.settings k.root ask k.content
+  path_unranged ask read none = path_told ask read ∙ by_content k.content
+    where
+      by_content : (content : Option Files) → asked_part k.settings k.root range ask content ≡ asked_answer k.settings k.root ask content
+      by_content None = refl
+      by_content (Some files) = ap Some (ask_unranged (setup_of k.settings k.root files) range ask none)
 
   -- a path that isn't read
   pub unread : (before now : ℕ) (e : Refusal) → IsPathRefusal e → e ≢ StoreFailed → (e ≢ NoMemory → readable path ≡ Err e) → IsRefused range (origin_answer k path range) before now e
   unread before now e may not_failed is =
-      refused_as range (origin_answer k path range) before now e may (λ failed. absurd (not_failed failed))
+      refused_as range (origin_answer k path range) before now e (may_refuse range e may) (λ failed. absurd (not_failed failed))
       (λ known_memory known_store. by_content k.content (is known_memory))
     where
       by_content : (content : Option Files) → readable path ≡ Err e → IfSome (origin_answer (record k { content = content }) path range) (λ a. a ≡ Err e)

@@ -1,5 +1,6 @@
 -- Bodies that are begun; this project's own.
 use Rattle.std.specs.Prelude.{◌≡◌, ℕ, ◌+◌, ◌^◌, ◌<◌, Bool, true, false, List, length, is_none, IsTrue, Option, Some, None, option_map}
+use Rattle.vod_types.specs.declared.media.Media.{Media}
 use Rattle.vod_types.specs.declared.media.Media.TheVariants.{Ts}
 use Rattle.vod_types.specs.declared.paths.Ask.{Ask}
 use Rattle.vod_types.specs.declared.paths.ByteRange.{ByteRange}
@@ -29,9 +30,13 @@ use Rattle.vod_origin.specs.Bodies.{IsBodyOf, calls_left, is_in_packets, is_unde
 
 -- ---- any reply
 
--- what a request is answered with, where files are told
+-- what a request is answered with, where files are told and a range of bytes may be asked for
+abbrev pub asked_part : Settled → List ℕ → Option ByteRange → Ask → Option Files → Option Answer
+asked_part settings root range ask content = option_map (λ files. ask_answer (setup_of settings root files) range ask) content
+
+-- and where it isn't
 abbrev pub asked_answer : Settled → List ℕ → Ask → Option Files → Option Answer
-asked_answer settings root ask content = option_map (λ files. ask_answer (setup_of settings root files) None ask) content
+asked_answer settings root ask content = asked_part settings root None ask content
 
 -- a reply gives the answer, whatever range is asked for
 abbrev pub Replies : Option Answer → ℕ → ℕ → Reply Cursor → Type 0
@@ -62,6 +67,23 @@ IsFresh leaf made (Stream b) = ⊥
 abbrev pub IsBegun : Leaf → FlatBody → Reply Cursor → Type 0
 IsBegun leaf body (Refused why) = ⊥
 IsBegun leaf body (Body kind n part cursor) = (kind ≡ leaf_media leaf) × (n ≡ told_length leaf (length body.bytes.items)) × (part ≡ None) × IsFresh leaf body cursor
+
+-- the cursor of bytes of which none is written
+pub record IsFreshOf (bytes : List ℕ) (b : MadeBody) : Type 0 where
+  pub bytes_are : b.body.bytes.items ≡ bytes
+  pub uncut : b.body.cut ≡ None
+  pub in_packets : b.in_packets ≡ false
+  pub waits : b.waits ≡ true
+
+abbrev pub IsFreshAs : List ℕ → Cursor → Type 0
+IsFreshAs bytes (Made b) = IsFreshOf bytes b
+IsFreshAs bytes (Fragment b) = ⊥
+IsFreshAs bytes (Stream b) = ⊥
+
+-- the reply with bytes that are made, or with those of a part
+abbrev pub IsMadeReply : Media → ℕ → Option (ℕ × ℕ × ℕ) → List ℕ → Reply Cursor → Type 0
+IsMadeReply media long told bytes (Refused why) = ⊥
+IsMadeReply media long told bytes (Body kind n part cursor) = (kind ≡ media) × (n ≡ Some long) × (part ≡ told) × IsFreshAs bytes cursor
 
 -- ---- a plan's body
 

@@ -4,7 +4,7 @@ ghost use Rattle.std.specs.Prelude.{◌≡◌, ◌≢◌, ◌≤◌, true, IsTru
 ghost use Rattle.vod_source.specs.Causes.{Rose};
 ghost use Rattle.vod_source.specs.Stored.{Files};
 ghost use Rattle.list_model.specs.Reply.{leaf_media, told_length};
-ghost use Rattle.mp4_flat.specs.Built.{IsBuiltAsk};
+ghost use Rattle.mp4_flat.specs.Asks.{IsPathAsk};
 ghost use Rattle.mp4_flat.specs.Flat.{is_stream};
 ghost use Rattle.flat_segments.specs.Bodies.{IsInPackets};
 ghost use Rattle.vod_origin.specs.Begun.{asked_answer, Begins, IsBegun, Replies};
@@ -26,7 +26,7 @@ pub(crate) fn plain_reply<S: Store>(
     root: &str,
     ask: Ask,
 ) -> Reply<Cursor>
-    requires { IsBuiltAsk ask }
+    requires { IsPathAsk ask }
     ensures replies { Replies (asked_answer settings.now root.now ask (S.content store.old)) (S.faults store.old) (S.faults store.new) result }
     ensures begins { Begins (asked_answer settings.now root.now ask (S.content store.old)) (S.content store.old) result }
     ensures content { S.content store.new ≡ S.content store.old }

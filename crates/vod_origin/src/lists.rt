@@ -10,7 +10,7 @@ ghost use Rattle.origin_model.specs.Iframes.{planned_iframes};
 ghost use Rattle.origin_model.specs.Plans.{planned_rows};
 ghost use Rattle.answer_laws.specs.Refusals.{IsPathRefusal};
 ghost use Rattle.flat_lists.specs.Listings.{HasPart};
-ghost use Rattle.mp4_flat.specs.Built.{IsBuiltAsk};
+ghost use Rattle.mp4_flat.specs.Asks.{IsPathAsk};
 ghost use Rattle.vod_meta.specs.Held.{AreTrue};
 ghost use Rattle.vod_plan.specs.Planned.{cutting_of};
 ghost use Rattle.vod_origin.specs.Begun.{asked_answer, Begins, Replies};
@@ -40,7 +40,7 @@ pub(crate) fn playlist_reply<S: Store>(
     sequence: u32,
     asked: Asked,
 ) -> Reply<Cursor>
-    requires ask { IsBuiltAsk ask }
+    requires ask { IsPathAsk ask }
     requires leaf { ask.leaf ≡ Index sequence asked }
     requires held { AreHeld (S.content store.old) metas.old }
     ensures replies { Replies (asked_answer settings.now root.now ask (S.content store.old)) (S.faults store.old) (S.faults store.new) result }
@@ -75,7 +75,7 @@ pub(crate) fn iframes_reply<S: Store>(
     sequence: u32,
     video: u8,
 ) -> Reply<Cursor>
-    requires ask { IsBuiltAsk ask }
+    requires ask { IsPathAsk ask }
     requires leaf { ask.leaf ≡ Iframes sequence video }
     requires held { AreHeld (S.content store.old) metas.old }
     ensures replies { Replies (asked_answer settings.now root.now ask (S.content store.old)) (S.faults store.old) (S.faults store.new) result }

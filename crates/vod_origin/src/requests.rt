@@ -4,7 +4,7 @@ ghost use Rattle.std.specs.Prelude.{◌≡◌, ◌≤◌, false};
 ghost use Rattle.vod_origin.specs.Begun.{asked_answer, Begins, IsPlanReply, Replies};
 ghost use Rattle.vod_origin.specs.Held.{AreHeld};
 ghost use Rattle.vod_origin.specs.Wanted.{asked_of, form_of, leaf_of, number_of};
-ghost use Rattle.mp4_flat.specs.Built.{IsBuiltAsk};
+ghost use Rattle.mp4_flat.specs.Asks.{IsPathAsk};
 
 use crate::bodies::plain_reply;
 use crate::cursor::Cursor;
@@ -31,7 +31,7 @@ pub(crate) fn ask_reply<S: Store>(
     ask: Ask,
     head_only: bool,
 ) -> Reply<Cursor>
-    requires ask { IsBuiltAsk ask }
+    requires ask { IsPathAsk ask }
     requires held { AreHeld (S.content store.old) metas.old }
     ensures replies { Replies (asked_answer settings.now root.now ask (S.content store.old)) (S.faults store.old) (S.faults store.new) result }
     ensures begins { head_only ≡ false → Begins (asked_answer settings.now root.now ask (S.content store.old)) (S.content store.old) result }
@@ -56,7 +56,7 @@ fn made_reply<S: Store>(
     root: &str,
     ask: Ask,
 ) -> Reply<Cursor>
-    requires ask { IsBuiltAsk ask }
+    requires ask { IsPathAsk ask }
     requires held { AreHeld (S.content store.old) metas.old }
     ensures replies { Replies (asked_answer settings.now root.now ask (S.content store.old)) (S.faults store.old) (S.faults store.new) result }
     ensures begins { Begins (asked_answer settings.now root.now ask (S.content store.old)) (S.content store.old) result }
@@ -87,7 +87,7 @@ fn planned_reply<S: Store>(
     wanted: Wanted,
     head_only: bool,
 ) -> Reply<Cursor>
-    requires ask { IsBuiltAsk ask }
+    requires ask { IsPathAsk ask }
     requires leaf { ask.leaf ≡ leaf_of sequence wanted }
     requires held { AreHeld (S.content store.old) metas.old }
     ensures replies { Replies (asked_answer settings.now root.now ask (S.content store.old)) (S.faults store.old) (S.faults store.new) result }

@@ -2,7 +2,7 @@ use Rattle.std.proofs.Common.{true, All, refl, sym, subst, ◌∙◌}
 use Rattle.std.proofs.lemmas.List.Elements.{All-nil}
 use Rattle.flat_lists.specs.Asked.{asking_view, setup_of}
 use Rattle.vod_source.proofs.CallLemmas.{told_with_all}
-use Rattle.mp4_flat.specs.Packed.{IsName}
+use Rattle.list_model.specs.Names.{IsLeafOf}
 use Rattle.mp4_flat.proofs.PackedPaths.{dash_put}
 use Rattle.mp4_flat.proofs.dash_names.dash_names.Goals as goal
 
@@ -13,4 +13,4 @@ returns-in-Ok-push_described-clause-told g c =
 
 pub returns-in-Ok-push_described-clause-each : goal.returns-in-Ok-push_described-clause-each
 returns-in-Ok-push_described-clause-each g c =
-    c.in-Ok-push_described.ensures.each (c.in-Ok-push.ensures.each true (refl, refl) (subst (All (IsName true)) (sym c.new-names.ensures.items) (All-nil (IsName true))))
+    c.in-Ok-push_described.ensures.each (c.in-Ok-push.ensures.each true refl (subst (All (IsLeafOf true)) (sym c.new-names.ensures.items) (All-nil (IsLeafOf true))))

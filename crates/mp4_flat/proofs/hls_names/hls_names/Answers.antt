@@ -2,7 +2,7 @@ use Rattle.std.proofs.Common.{false, All, refl, sym, subst, ◌∙◌}
 use Rattle.std.proofs.lemmas.List.Elements.{All-nil}
 use Rattle.flat_lists.specs.Asked.{asking_view, setup_of}
 use Rattle.vod_source.proofs.CallLemmas.{told_with_other}
-use Rattle.mp4_flat.specs.Packed.{IsName}
+use Rattle.list_model.specs.Names.{IsLeafOf}
 use Rattle.mp4_flat.proofs.HlsNames.{hls_put}
 use Rattle.mp4_flat.proofs.hls_names.hls_names.Goals as goal
 
@@ -13,4 +13,4 @@ returns-in-Ok-push_sequences-clause-told g c =
 
 pub returns-in-Ok-push_sequences-clause-each : goal.returns-in-Ok-push_sequences-clause-each
 returns-in-Ok-push_sequences-clause-each g c =
-    c.in-Ok-push_sequences.ensures.each (c.in-Ok-push.ensures.each false (refl, refl) (subst (All (IsName false)) (sym c.new-names.ensures.items) (All-nil (IsName false))))
+    c.in-Ok-push_sequences.ensures.each (c.in-Ok-push.ensures.each false refl (subst (All (IsLeafOf false)) (sym c.new-names.ensures.items) (All-nil (IsLeafOf false))))

@@ -13,4 +13,4 @@ returns-in-Ok-push-clause-told g c =
 
 pub returns-in-Ok-push-clause-each : goal.returns-in-Ok-push-clause-each
 returns-in-Ok-push-clause-each g c =
-    on_mapped c.push_playlist.result (λ kept all. kept (c.in-Ok-push.ensures.each false ((refl, c.requires.sequence, c.requires.asked), refl) all)) c.push_playlist.ensures.each
+    on_mapped c.push_playlist.result (λ kept all. kept (c.in-Ok-push.ensures.each false (refl, c.requires.sequence, c.requires.asked) all)) c.push_playlist.ensures.each

@@ -4,8 +4,8 @@ use Rattle.vod_source.proofs.CallLemmas.{told_with_all}
 use Rattle.mp4_flat.proofs.PackLemmas.{body_put, list_refused, refusal_put}
 use Rattle.mp4_flat.proofs.packaging.put_name.Goals as goal
 
-pub leaf_answer-requires-clause-leaf : goal.leaf_answer-requires-clause-leaf
-leaf_answer-requires-clause-leaf g c = (c.args.dash, c.requires.leaf.0)
+pub leaf_answer-requires : goal.leaf_answer-requires
+leaf_answer-requires g c = (c.args.dash, c.requires.leaf)
 
 pub returns-in-Ok-clause-told : goal.returns-in-Ok-clause-told
 returns-in-Ok-clause-told g c =

@@ -4,14 +4,15 @@ use Rattle.list_model.specs.Pack.{pack}
 use Rattle.origin_model.specs.Answers.{leaf_answer}
 use Rattle.flat_lists.specs.Asked.{asking_view, setup_of}
 use Rattle.vod_source.proofs.CallLemmas.{told_all, told_with_other}
-use Rattle.mp4_flat.specs.Packed.{IsName, IsPackedAs, is_description}
+use Rattle.list_model.specs.Names.{IsLeafOf}
+use Rattle.mp4_flat.specs.Packed.{IsPackedAs, is_description}
 use Rattle.mp4_flat.proofs.PackedPaths.{packed_failed, packed_names}
 use Rattle.mp4_flat.proofs.packs.pack_names.Goals as goal
 
 pub put_names-requires : goal.put_names-requires
 put_names-requires g c =
-    let named = subst (λ (dash : Bool). All (IsName dash) c.in-Ok.names.items) (sym c.is_description-dash.ensures) c.in-Ok.ensures.each in
-    record { leaves = subst (All (IsName c.is_description-dash.result)) (sym c.deref.ensures.value) named }
+    let named = subst (λ (dash : Bool). All (IsLeafOf dash) c.in-Ok.names.items) (sym c.is_description-dash.ensures) c.in-Ok.ensures.each in
+    record { leaves = subst (All (IsLeafOf c.is_description-dash.result)) (sym c.deref.ensures.value) named }
 
 pub returns-in-Ok-clause-told : goal.returns-in-Ok-clause-told
 returns-in-Ok-clause-told g c =

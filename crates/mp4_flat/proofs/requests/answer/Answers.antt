@@ -13,5 +13,5 @@ returns-in-Ok-clause-told g c =
     told_with_all (g.S.Store.content c.args.files.now) _ _ c.answer_ask.ensures.told
     (λ known came. path_answered (setup_of c.args.settings.now c.args.root.now known) c.args.path.now c.in-Ok.ask c.answer_ask.result _ _ c.in-Ok.ensures.answers came)
 
-pub returns-in-Ok-clause-unbuilt : goal.returns-in-Ok-clause-unbuilt
-returns-in-Ok-clause-unbuilt g c = λ err. absurd (read_is_ok c.args.path.now c.in-Ok.ask c.in-Ok.ensures.answers err)
+pub returns-in-Ok-clause-unread : goal.returns-in-Ok-clause-unread
+returns-in-Ok-clause-unread g c = λ err. absurd (read_is_ok c.args.path.now c.in-Ok.ask c.in-Ok.ensures.answers err)
