@@ -6,6 +6,7 @@ use Rattle.vod_types.specs.declared.paths.Ask.{Ask}
 use Rattle.vod_types.specs.declared.paths.ByteRange.{ByteRange}
 use Rattle.vod_types.specs.declared.paths.Leaf.{Leaf}
 use Rattle.vod_types.specs.declared.paths.Leaf.TheVariants.{Clip}
+use Rattle.vod_types.specs.declared.paths.Leaf.TheVariants as leaves
 use Rattle.vod_types.specs.declared.refusal.Refusal.{Refusal}
 use Rattle.vod_types.specs.declared.refusal.Refusal.TheVariants as refusals
 use Rattle.vod_types.specs.declared.refusal.Refusal.TheVariants.{NoMemory, StoreFailed}
@@ -35,6 +36,7 @@ use Rattle.vod_origin.specs.AnswerLaw.{mp4_long}
 use Rattle.vod_origin.specs.Begun.{asked_part, Begins, IsMadeReply}
 use Rattle.vod_origin.specs.Bodies.{rest_in}
 use Rattle.vod_origin.specs.ClipAnswers.{IsClipAnswer, clip_kept}
+use Rattle.vod_origin.specs.Ranges.{clip_of}
 use Rattle.vod_origin.specs.Refusals.{may_refuse}
 use Rattle.vod_origin.specs.declared.cursor.Cursor.{Cursor}
 use Rattle.vod_origin.specs.declared.cursor.Cursor.TheVariants.{Made, Fragment, Stream}
@@ -49,10 +51,29 @@ part_length (Some range) p = p.last + 1 - p.first
 pub part_bounds : (range : ByteRange) (p : ClipPart) → IsByteRange range → asked_part_of (Some range) p.length ≡ Ok (p.first, p.last) → (p.first ≤ p.last) × (p.last < p.length)
 part_bounds range p ordered is = taken_range-bounds range p.length (p.first, p.last) ordered (ok_or_ok (taken_range range p.length) (refusals.BadRange p.length) (p.first, p.last) is)
 
+-- of a range that is asked for
+pub bounds_of : (range : Option ByteRange) (r : ByteRange) (p : ClipPart) → range ≡ Some r → IfSome range IsByteRange → asked_part_of range p.length ≡ Ok (p.first, p.last)
+    → (p.first ≤ p.last) × (p.last < p.length)
+bounds_of (Some range) r p is ordered asked = part_bounds range p ordered asked
+bounds_of None r p is ordered asked = absurd cc
+
+-- a reply with a whole clip, and with a part
+pub made_whole : (range : Option ByteRange) (p : ClipPart) (media other : Media) (reply : Reply Cursor) → range ≡ None → media ≡ other
+    → IsMadeReply media (length p.bytes.items) None p.bytes.items reply → IsMadeReply other (part_length range p) (part_told range (part_view p)) p.bytes.items reply
+made_whole None p media other reply is same = subst (λ (m : Media). IsMadeReply m (length p.bytes.items) None p.bytes.items reply) same
+made_whole (Some range) p media other reply is same = absurd cc
+
+pub made_part : (range : Option ByteRange) (r : ByteRange) (p : ClipPart) (media other : Media) (reply : Reply Cursor) → range ≡ Some r → media ≡ other
+    → IsMadeReply media (p.last + 1 - p.first) (Some (p.first, p.last, p.length)) p.bytes.items reply
+    → IsMadeReply other (part_length range p) (part_told range (part_view p)) p.bytes.items reply
+made_part (Some range) r p media other reply is same =
+    subst (λ (m : Media). IsMadeReply m (p.last + 1 - p.first) (Some (p.first, p.last, p.length)) p.bytes.items reply) same
+made_part None r p media other reply is same = absurd cc
+
 -- its refusals
 range_given : (range : Option ByteRange) (n : ℕ) → BadRangeOf range → MayRefuse range (refusals.BadRange n)
 range_given None n bad = absurd bad
-range_given (Some range) n bad = tt
+range_given (Some range) n bad = refl
 
 clip_may_refuse : (range : Option ByteRange) (e : Refusal) → IsClipRefusal range e → MayRefuse range e
 clip_may_refuse range e (inl may) = may_refuse range e may
@@ -93,7 +114,7 @@ module _ (settings : Settled) (root : List ℕ) (ask : Ask) (sequence : ℕ) (as
     head None ordered is = (mp4_long asked.video asked.audio (length p.bytes.items), tt)
     head (Some range) ordered is =
         let bounds = part_bounds range p ordered is in
-        (mp4_long asked.video asked.audio (p.last + 1 - p.first), (tt, bounds.0, bounds.1, (let first = bounds.0 in omega (arith, first))))
+        (mp4_long asked.video asked.audio (p.last + 1 - p.first), (refl, bounds.0, bounds.1, (let first = bounds.0 in omega (arith, first))))
 
     -- the body has these fields
     fields : (range : Option ByteRange) (a : Answer) → IsClipAnswer range asked a → clip_seen a ≡ Ok (clip_shown range p)
@@ -145,3 +166,14 @@ module _ (settings : Settled) (root : List ℕ) (ask : Ask) (sequence : ℕ) (as
             rw (made.3.bytes_are, made.3.uncut, made.3.waits) (sym (rest_is (ask_answer (setup_of settings root files) range ask) (clip_law (setup_of settings root files)) told))
     part_begins (replies.Body kind n part (Fragment b)) made = absurd made.3
     part_begins (replies.Body kind n part (Stream b)) made = absurd made.3
+
+-- it is that of a clip
+pub clip_leaf : (leaf : Leaf) (sequence : ℕ) (asked : Asked) → clip_of leaf ≡ Some (sequence, asked) → leaf ≡ Clip sequence asked
+clip_leaf (Clip sequence asked) s a is = let same : (sequence, asked) ≡ (s, a) = cc is in ap (λ (q : ℕ × Asked). Clip q.0 q.1) same
+clip_leaf leaves.Master s a is = absurd cc
+clip_leaf leaves.Mpd s a is = absurd cc
+clip_leaf (leaves.Index sequence asked) s a is = absurd cc
+clip_leaf (leaves.Init part sequence asked) s a is = absurd cc
+clip_leaf (leaves.Segment number sequence asked form) s a is = absurd cc
+clip_leaf (leaves.Iframes sequence video) s a is = absurd cc
+clip_leaf (leaves.Iframe number index sequence video) s a is = absurd cc

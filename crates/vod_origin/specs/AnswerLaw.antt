@@ -66,7 +66,7 @@ of_clip None asked (Ok body) is =
     ((rw (is.kind, is.for.long) (mp4_long asked.video asked.audio (length body.bytes)), rw is.for.told tt), rw is.for.long refl)
 of_clip (Some range) asked (Ok body) is =
     let n : ℕ = is.for.part.1 + 1 - is.for.part.0 in
-    ((rw (is.kind, is.for.long) (mp4_long asked.video asked.audio n), rw (is.for.told, is.for.long) (tt, is.for.ordered, is.for.within, (let sum = is.for.ordered in omega (arith, sum)))), rw is.for.long is.for.bytes)
+    ((rw (is.kind, is.for.long) (mp4_long asked.video asked.audio n), rw (is.for.told, is.for.long) (refl, is.for.ordered, is.for.within, (let sum = is.for.ordered in omega (arith, sum)))), rw is.for.long is.for.bytes)
 
 module _ (o : Setup) (range : Option ByteRange) (ordered : IfSome range IsByteRange) where
   ranged_keeps : (a : Asking) (leaf : Leaf) → IsAnswer range (ranged_answer o a range leaf)

@@ -1,7 +1,6 @@
 -- What the answers of clips keep, whole and in part; this project's own.
-use Rattle.std.proofs.Common.{◌≡◌, ℕ, ◌+◌, ◌-◌, ◌≤◌, ◌<◌, List, length, slice_range, Option, Some, None, Result, Ok, Err, IfSome, refl, sym, ap, ◌∙◌, subst, arith}
+use Rattle.std.proofs.Common.{◌≡◌, ℕ, ◌+◌, ◌-◌, ◌≤◌, ◌<◌, List, drop, length, length-drop, length-take-le, Option, Some, None, Result, Ok, Err, IfSome, refl, sym, ap, ◌∙◌, subst, arith}
 use Rattle.std.specs.Prelude.{MatchResult, ok_or}
-use Rattle.std.proofs.Math.Seq.{length-slice}
 use Rattle.vod_types.specs.declared.paths.ByteRange.{ByteRange}
 use Rattle.vod_types.specs.declared.paths.Leaf.TheVariants.{Clip}
 use Rattle.vod_types.specs.declared.refusal.Refusal.{Refusal}
@@ -81,7 +80,9 @@ module _ (p : PlannedClip) where
               ordered = bounds.0;
               within = omega (arith, bounds.1, sized);
               long = refl;
-              bytes = length-slice part.0 (part.1 + 1) (clip_bytes p files) (omega (arith, bounds.1, sized));
+              bytes =
+                  (let rest : List ℕ = drop part.0 (clip_bytes p files) in
+                  length-take-le (part.1 + 1 - part.0) rest (omega (arith, bounds.1, sized, length-drop part.0 (clip_bytes p files))));
             };
           }
 
@@ -97,13 +98,16 @@ module _ (p : PlannedClip) where
           by_taken : (found : Option (ℕ × ℕ)) → taken_range range (clip_length p) ≡ found
               → IsClipAnswer (Some range) asked ((ok_or found (refusals.BadRange (clip_length p)) >>= λ part. unless (part_fault p part) >> Ok part) >>= λ part. Ok (body_with (Some range) part))
           by_taken (Some part) taken = by_fault part (unless (part_fault p part)) (part_may part) taken
-          by_taken None taken = tt
+          by_taken None taken = refl
+
+      abbrev all_of : Result (ℕ × ℕ) Refusal
+      all_of = Ok (0, clip_length p - 1)
 
       of_whole : IsClipAnswer None asked (checked_part p None >>= λ part. Ok (body_with None part))
       unfolding checked_part
       of_whole = by_fault (unless (part_fault p (0, clip_length p - 1))) (part_may (0, clip_length p - 1))
         where
-          by_fault : (r : Result (Unit {0}) Refusal) → May (r >> Ok (0, clip_length p - 1)) → IsClipAnswer None asked ((r >> Ok (0, clip_length p - 1)) >>= λ part. Ok (body_with None part))
+          by_fault : (r : Result (Unit {0}) Refusal) → May (r >> all_of) → IsClipAnswer None asked ((r >> all_of) >>= λ part. Ok (body_with None part))
           by_fault (Ok x) may = record { kind = refl; end = refl; for = record { told = refl; long = refl } }
           by_fault (Err e) may = may_refuse None e may
 
