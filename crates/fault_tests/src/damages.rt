@@ -161,14 +161,14 @@ fn failing_calls_end_the_run_before_a_byte(rt: HostRuntime) -> Result<(), Fail> 
         assert!(rt; it.status == 3 && it.body.is_empty(), "at call {call}");
         assert_eq!(rt; it.line.as_slice(), b"store failed\n".as_slice());
     }
-    // A form that isn't built asks for the settings alone.
+    // A path that isn't in the grammar asks for the settings alone.
     let store = store_of(alloc, "/r/f.mp4", Vec::new(alloc), vec![in alloc; 3]?)?;
     let it = ran(
         alloc,
-        "get /r s.json /local/hls/f.mp4/clip-f1-a1.mp4",
+        "get /r s.json /local/hls/f.mp4/clip-f1-a1-v1.mp4",
         store,
     )?;
-    assert_eq!(rt; it.line.as_slice(), b"refused 14 Unsupported\n".as_slice());
+    assert_eq!(rt; it.line.as_slice(), b"refused 4 BadPath\n".as_slice());
     Ok(())
 }
 

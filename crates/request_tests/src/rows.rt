@@ -26,10 +26,20 @@ fn run_of(alloc: Global, body: &[u8], at: usize) -> Result<String, Fail> {
     Ok(text)
 }
 
-// The number of a fragment and its runs, each behind a semicolon, or the length of an initialization segment.
+// The length of an initialization segment; of a clip its length, the place where its `moov` ends, and its last four bytes.
+fn movie_of(alloc: Global, body: &[u8]) -> Result<String, Fail> {
+    let end = 24 + word(body, 24) as usize;
+    if end == body.len() {
+        return Ok(format!(in alloc; "init {end}")?);
+    }
+    let last = word(body, body.len().saturating_sub(4));
+    Ok(format!(in alloc; "clip {} {end} {last}", body.len())?)
+}
+
+// The number of a fragment and its runs, each behind a semicolon, or what a movie has.
 fn boxes_of(alloc: Global, body: &[u8]) -> Result<String, Fail> {
     if behind(body, 4).starts_with(b"ftyp") {
-        return Ok(format!(in alloc; "init {}", body.len())?);
+        return movie_of(alloc, body);
     }
     let mut text = format!(in alloc; "{}", word(body, 44))?;
     text.push_str(run_of(alloc, body, 48)?.as_str())?;
@@ -105,7 +115,7 @@ rehearse 4294967296 | usage
 Rehearse 1 | usage
 ";
 
-// Rows of settings, path and what is due: a refusal, the length of an initialization segment, or a fragment's number and
+// Rows of settings, path and what is due: a refusal, the length of an initialization segment, what a clip has, or a fragment's number and
 // for each track its id, the two halves of the time of its first sample, how many samples it has, and the numbers of the
 // first and the last one; of a transport stream its length and its last four bytes, and of a list its lines.
 const ROWS: &str = r#"
@@ -248,8 +258,12 @@ long.json /mapped/dash/five.json/fragment-5-v1.m4s | refused 40 NoSegment
 - /local/hls/a.mp4/iframe-1-11-f1-v1.ts | refused 47 NoIframe
 - /local/hls/a.mp4/iframe-3-1-f1-v1.ts | refused 40 NoSegment
 - /local/hls/two.mp4/iframes-f1-v1.m3u8 | refused 25 NoTrack
-# A form that isn't built.
-long.json /local/dash/a.mp4/clip-f1-v1.mp4 | refused 14 Unsupported
+# Clips: of two samples, with 24 bytes of `ftyp`, 636 of `moov`, and 16 and 30 of `mdat`; of two pieces, and of nothing that is selected.
+- /local/dash/two.mp4/clip-f1-a1.mp4 | clip 706 660 1970698104
+- /local/hls/two.mp4/clip-a1.mp4 | clip 706 660 1970698104
+- /mapped/dash/m.json/clip-f1-v1.mp4 | refused 18 ManyPieces
+- /local/dash/two.mp4/clip-v1.mp4 | refused 25 NoTrack
+- /local/dash/two.mp4/clipFrom/60000/clip-f1-a1.mp4 | refused 17 EmptyClip
 # Names that aren't spelled as they are printed, and settings that are empty or aren't there.
 - /local/hls/a.mp4/seg-01-f1-a1.ts | refused 4 BadPath
 - /local/hls/a.mp4/index-f1-a1-v1.m3u8 | refused 4 BadPath

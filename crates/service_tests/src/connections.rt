@@ -9,8 +9,8 @@ use vod_source::{MemDoor, MemLink, MemSink, MemStore, Store};
 use vod_types::Kind;
 
 // What a peer sends, how many letters `a` stand behind that, and what it is answered, with `@` in place of the segment of 182
-// bytes.
-const PEERS: [(&str, usize, &str); 7] = [
+// bytes and `~` in place of the clip of 706.
+const PEERS: [(&str, usize, &str); 11] = [
     (
         "GET /local/dash/a.mp4/fragment-1-a1.m4s HTTP/1.1\r\n\r\n",
         0,
@@ -52,6 +52,31 @@ const PEERS: [(&str, usize, &str); 7] = [
         0,
         "HTTP/1.1 404 Not Found\r\nContent-Type: text/plain\r\nContent-Length: 21\r\n\r\nrefused 40 NoSegment\n",
     ),
+    // Ten bytes of the second sample of a clip, which stands at 686.
+    (
+        "GET /local/dash/a.mp4/clip-f1-a1.mp4 HTTP/1.1\r\nRange: bytes=690-699\r\n\r\n",
+        0,
+        "HTTP/1.1 206 Partial Content\r\nContent-Type: audio/mp4\r\nContent-Length: 10\r\n\
+         Content-Range: bytes 690-699/706\r\n\r\nijklmnopqr",
+    ),
+    // A range behind the clip.
+    (
+        "GET /local/dash/a.mp4/clip-f1-a1.mp4 HTTP/1.1\r\nRange: bytes=706-\r\n\r\n",
+        0,
+        "HTTP/1.1 416 Range Not Satisfiable\r\nContent-Type: text/plain\r\nContent-Length: 19\r\n\
+         Content-Range: bytes */706\r\n\r\nrefused 7 BadRange\n",
+    ),
+    // Two ranges are passed over, and so is the range of another name.
+    (
+        "GET /local/dash/a.mp4/clip-f1-a1.mp4 HTTP/1.1\r\nRange: bytes=0-1,4-5\r\n\r\n",
+        0,
+        "HTTP/1.1 200 OK\r\nContent-Type: audio/mp4\r\nContent-Length: 706\r\n\r\n~",
+    ),
+    (
+        "GET /local/dash/a.mp4/fragment-1-a1.m4s HTTP/1.1\r\nRange: bytes=0-9\r\n\r\n",
+        0,
+        "HTTP/1.1 200 OK\r\nContent-Type: audio/mp4\r\nContent-Length: 182\r\n\r\n@",
+    ),
 ];
 
 // Two requests in a row, and what they are answered.
@@ -79,12 +104,13 @@ fn links(alloc: Global) -> Result<Vec<MemLink>, Fail> {
     Ok(links)
 }
 
-// What a peer is answered, with this segment.
-fn due(alloc: Global, text: &str, segment: &[u8]) -> Result<Vec<u8>, Fail> {
+// What a peer is answered, with this segment and this clip.
+fn due(alloc: Global, text: &str, segment: &[u8], clip: &[u8]) -> Result<Vec<u8>, Fail> {
     let mut due = Vec::new(alloc);
     for byte in text.as_bytes() {
         match byte {
             b'@' => due.extend_from_slice(segment)?,
+            b'~' => due.extend_from_slice(clip)?,
             byte => due.push(*byte)?,
         }
     }
@@ -94,6 +120,12 @@ fn due(alloc: Global, text: &str, segment: &[u8]) -> Result<Vec<u8>, Fail> {
 // The segment that the requests ask for.
 fn segment(alloc: Global) -> Result<Vec<u8>, Fail> {
     let words = "get /r - /local/dash/a.mp4/fragment-1-a1.m4s";
+    Ok(ran(alloc, words, store(alloc)?)?.body)
+}
+
+// And the clip.
+fn clip(alloc: Global) -> Result<Vec<u8>, Fail> {
+    let words = "get /r - /local/dash/a.mp4/clip-f1-a1.mp4";
     Ok(ran(alloc, words, store(alloc)?)?.body)
 }
 
@@ -126,19 +158,20 @@ pub(crate) fn served_of<S: Store + Drop>(
 fn peers_are_answered(rt: HostRuntime) -> Result<(), Fail> {
     let alloc = rt.alloc();
     let segment = segment(alloc)?;
+    let clip = clip(alloc)?;
     for (words, status, line) in [
-        ("serve /r - addr 7", 0, ""),
-        ("turns /r - addr 7", 0, ""),
-        ("serve /r - addr 8", 6, "door failed\n"),
+        ("serve /r - addr 11", 0, ""),
+        ("turns /r - addr 11", 0, ""),
+        ("serve /r - addr 12", 6, "door failed\n"),
     ] {
         let (ended, door, told) = served(alloc, words, links(alloc)?)?;
         assert!(rt;
             ended == status && told.as_slice() == line.as_bytes(),
             "at {words}"
         );
-        assert!(rt; door.back().len() == 7);
+        assert!(rt; door.back().len() == 11);
         for ((sent, _, text), link) in PEERS.iter().zip(door.back()) {
-            let due = due(alloc, text, &segment)?;
+            let due = due(alloc, text, &segment, &clip)?;
             assert!(rt; link.written() == due.as_slice(), "at {words}, {sent}");
         }
     }
@@ -161,7 +194,7 @@ fn cut_link(alloc: Global, cut: usize, fails: Vec<u64>) -> Result<MemLink, Fail>
 #[test]
 fn requests_are_answered_however_they_come(rt: HostRuntime) -> Result<(), Fail> {
     let alloc = rt.alloc();
-    let due = due(alloc, TWICE.1, &segment(alloc)?)?;
+    let due = due(alloc, TWICE.1, &segment(alloc)?, b"")?;
     for cut in 0..=TWICE.0.len() {
         let link = cut_link(alloc, cut, Vec::new(alloc))?;
         let (status, door, _) = served(alloc, "serve /r - addr 1", vec![in alloc; link]?)?;

@@ -3,7 +3,6 @@ use Rattle.std.proofs.Common.{◌≡◌, ◌≢◌, ℕ, Bool, true, List, [], �
 use Rattle.std.proofs.lemmas.Grind.{flat_map-append}
 use Rattle.vod_types.specs.declared.refusal.Refusal.{Refusal}
 use Rattle.vod_types.specs.declared.refusal.Refusal.TheVariants.{NoMemory, StoreFailed}
-use Rattle.vod_types.specs.declared.paths.Ask.{Ask}
 use Rattle.vod_types.specs.Results.{◌>>=◌}
 use Rattle.vod_types.specs.Settled.{Settled}
 use Rattle.list_model.specs.Command.{Outcome, Requested, done, usage, refused, no_memory, store_failed, sink_failed, door_failed, read_line, reads_text}
@@ -14,7 +13,7 @@ use Rattle.vod_source.specs.Stored.{Files, Read}
 use Rattle.vod_source.specs.Told.{told_with, GrewByPrefix}
 use Rattle.vod_source.proofs.CallLemmas.{told_with_all}
 use Rattle.vod_source.proofs.ToldLemmas.{GrewByPrefix-front, GrewByPrefix-same, GrewByPrefix-whole, told_with-nil}
-use Rattle.origin_model.specs.Answers.{answer}
+use Rattle.origin_model.specs.Answers.{answer, every_leaf}
 use Rattle.origin_model.specs.Outcomes.{AreRequestReads, GainsDue, GainsReads, due_answer, end_refusal, get_due, reads_due, run_setup, setup_with}
 use Rattle.origin_model.specs.Reads.{path_reads}
 use Rattle.origin_model.specs.Requests.{Setup}
@@ -53,7 +52,7 @@ in_front due no_memory reads log ends e = e
 in_front due usage reads log ends e = absurd ends
 in_front due door_failed reads log ends e = absurd ends
 
-module _ (built : Ask → Bool) (o : Setup) (given path : List ℕ) (outcome : Outcome) (log : List Read) where
+module _ (o : Setup) (given path : List ℕ) (outcome : Outcome) (log : List Read) where
   -- the refusal of the answer that is due in the end
   abbrev last : Option Refusal
   last = (due_answer (answer o path None)).1
@@ -91,7 +90,7 @@ module _ (built : Ask → Bool) (o : Setup) (given path : List ℕ) (outcome : O
       some_of (Err r) reads g = g.0
 
 -- of a store that kept an empty log at first
-module _ {S : Type 0} (content : S → Option Files) (built : Ask → Bool) (o : Files → Setup) (given path : List ℕ) (outcome : Outcome) where
+module _ {S : Type 0} (content : S → Option Files) (o : Files → Setup) (given path : List ℕ) (outcome : Outcome) where
   abbrev Told : LoggedValue S → LoggedValue S → Result FlatBody Refusal → Type 0
   Told before now answered =
       IfSome (content before.inner) (λ files. IsFlatAnswer (o files) given answered (Some (reads_of before.names before.entries)) (Some (reads_of now.names now.entries)))
@@ -143,18 +142,18 @@ module _ (log : List Read) (out out_now : Option (List ℕ)) where
 -- ---- a whole run
 
 -- of a request that was logged
-pub reads_written : (built : Ask → Bool) (o : Setup) (path : List ℕ) (ended outcome : Outcome) (log : List Read) (out out_now : Option (List ℕ))
+pub reads_written : (o : Setup) (path : List ℕ) (ended outcome : Outcome) (log : List Read) (out out_now : Option (List ℕ))
     → IsLogged o path ended log → WritesReads log ended outcome out out_now → AreReadsWritten o path outcome out out_now
 reads_written o path ended outcome log out out_now is wrote =
     record { reads = is.reads; reads_are = is.reads_are; wrote = wrote (due_answer (answer o path None)).1 is.reads is.ends is.logged }
 
 -- of one for which there was no memory
-pub reads_unmade : (built : Ask → Bool) (o : Setup) (path : List ℕ) (out : Option (List ℕ)) → AreReadsWritten o path no_memory out out
+pub reads_unmade : (o : Setup) (path : List ℕ) (out : Option (List ℕ)) → AreReadsWritten o path no_memory out out
 reads_unmade o path out =
-    let reads = path_reads built o [] true [] path None in
+    let reads = path_reads every_leaf o [] true [] path None in
     record { reads = reads; reads_are = record { taken = []; are = refl }; wrote = GrewByPrefix-same out out (reads_text reads) refl }
 
-module _ (built : Ask → Bool) (files : Files) (q : Requested) where
+module _ (files : Files) (q : Requested) where
   abbrev reads_due_of : Result Setup Refusal → List Read → List ℕ × Option Refusal
   reads_due_of s reads = (reads_text reads, (due_answer (s >>= λ o. answer o q.path None)).1)
 
@@ -169,7 +168,7 @@ module _ (built : Ask → Bool) (files : Files) (q : Requested) where
       let setup : (r ≢ NoMemory → r ≢ StoreFailed → run_setup files q ≡ Err r) = (λ known_memory known_store.
       ap (λ s. s >>= λ settings. Ok (setup_with files q settings)) (a.answered known_memory known_store))
       in
-      let reads = some_reads built q true (run_setup files q) in
+      let reads = some_reads every_leaf q true (run_setup files q) in
       let due = reads_due files q reads in
       let wrote =
       by_refusal (λ r outcome. (r ≢ NoMemory → r ≢ StoreFailed → due ≡ ([], Some r)) → GainsDue due outcome out out)
@@ -178,11 +177,11 @@ module _ (built : Ask → Bool) (files : Files) (q : Requested) where
       (λ r known_memory known_store refuses. subst (λ due. GainsDue due (refused r) out out) (sym (refuses known_memory known_store)) (refl, sym (told_with-nil out)))
       r
       (λ known_memory known_store.
-      reads_due-is reads ∙ ap (λ s. reads_due_of s (some_reads built q true s)) (setup known_memory known_store))
+      reads_due-is reads ∙ ap (λ s. reads_due_of s (some_reads every_leaf q true s)) (setup known_memory known_store))
       in
       record {
         reads = reads;
-        made = are_some_reads built files q true (run_setup files q);
+        made = are_some_reads every_leaf files q true (run_setup files q);
         wrote = subst (λ told. GainsDue due told out out) (sym e) wrote;
       }
 
@@ -193,6 +192,6 @@ module _ (built : Ask → Bool) (files : Files) (q : Requested) where
       let setup : run_setup files q ≡ Ok (setup_with files q s) = ap (λ s. s >>= λ settings. Ok (setup_with files q settings)) a.answered in
       record {
         reads = w.reads;
-        made = subst (λ s. AreRequestReads built files q true s w.reads) (sym setup) w.reads_are;
+        made = subst (λ s. AreRequestReads files q every_leaf true s w.reads) (sym setup) w.reads_are;
         wrote = subst (λ due. GainsDue due outcome out out_now) (sym (reads_due-is w.reads ∙ ap (λ s. reads_due_of s w.reads) setup)) w.wrote;
       }

@@ -3,15 +3,15 @@ use Rattle.std.proofs.Common.{◌≡◌, ◌≢◌, ◌+◌, ◌<◌, ℕ, suc, 
 use Rattle.std.specs.List.{concat}
 use Rattle.vod_types.specs.declared.refusal.Refusal.{Refusal}
 use Rattle.vod_types.specs.declared.refusal.Refusal.TheVariants.{NoMemory, StoreFailed}
-use Rattle.vod_types.specs.declared.paths.Ask.{Ask}
+use Rattle.vod_types.specs.declared.paths.Leaf.{Leaf}
 use Rattle.vod_types.specs.Results.{◌>>=◌}
 use Rattle.vod_types.specs.Settled.{Settled}
 use Rattle.list_model.specs.Command.{Outcome, Requested, plan_text, done, usage, refused, no_memory, store_failed, sink_failed, door_failed}
 use Rattle.list_model.specs.Reply.{Answer}
-use Rattle.origin_model.specs.Answers.{answer, path_rows}
+use Rattle.origin_model.specs.Answers.{answer, every_leaf, is_index, path_rows}
 use Rattle.origin_model.specs.Outcomes.{AreRequestReads, Due, GainsDue, GainsReads, due_answer, due_rows, due_with, get_due, pack_due, plan_due, run_setup, settings_reads, setup_with}
 use Rattle.origin_model.specs.Packaging.{packed_path}
-use Rattle.origin_model.specs.Reads.{AreReads, for_rows, path_reads}
+use Rattle.origin_model.specs.Reads.{AreReads, path_reads}
 use Rattle.origin_model.specs.Requests.{Setup}
 use Rattle.vod_types.specs.declared.segments.Listed.{Listed}
 use Rattle.vod_source.specs.Calls.{LogsReads}
@@ -165,26 +165,26 @@ pub flat_refused : (due : Answer) (r : Refusal) → flat_seen due ≡ Err r → 
 flat_refused (Ok body) r e = absurd cc
 flat_refused (Err other) r e = cc
 
-pub written_of : (built : Ask → Bool) (o : Setup) (given path : List ℕ) (outcome : Outcome) (r : Refusal) (out : Option (List ℕ)) (log log_now : Option (List Read))
+pub written_of : (o : Setup) (given path : List ℕ) (outcome : Outcome) (r : Refusal) (out : Option (List ℕ)) (log log_now : Option (List Read))
     → given ≡ path → outcome ≡ refused_outcome r → IsFlatAnswer o given (Err r) log log_now → IsAnswerWritten o path outcome out out log log_now
 written_of o given path outcome r out log log_now same e a =
     let b = subst (λ p. IsFlatAnswer o p (Err r) log log_now) same a in
     written_refused b.reads r outcome out log log_now e
     (λ known_memory known_store. ap due_answer (flat_refused (answer o path None) r (b.answered known_memory known_store))) b.reads_are b.logged
 
-module _ (built : Ask → Bool) (files : Files) (q : Requested) where
+module _ (files : Files) (q : Requested) where
   pub got_of : (outcome : Outcome) (r : Refusal) (out : Option (List ℕ)) (log log_now : Option (List Read))
       → outcome ≡ refused_outcome r → AreSettingsRead files q.settings (Err r) log log_now → IsGet files q outcome out out log log_now
   unfolding get_due
   got_of outcome r out log log_now e a =
-      run_refused (λ s. due_answer (s >>= λ o. answer o q.path None)) built files q true (λ r. refl) r outcome out log log_now e a
+      run_refused (λ s. due_answer (s >>= λ o. answer o q.path None)) every_leaf files q true (λ r. refl) r outcome out log log_now e a
 
   pub got_with : (s : Settled) (outcome : Outcome) (out out_now : Option (List ℕ)) (log log_mid log_now : Option (List Read))
       → AreSettingsRead files q.settings (Ok s) log log_mid → IsAnswerWritten (setup_with files q s) q.path outcome out out_now log_mid log_now
       → IsGet files q outcome out out_now log log_now
   unfolding get_due
   got_with s outcome out out_now log log_mid log_now a w =
-      run_with (λ s. due_answer (s >>= λ o. answer o q.path None)) built files q true s outcome out out_now log log_mid log_now a w
+      run_with (λ s. due_answer (s >>= λ o. answer o q.path None)) every_leaf files q true s outcome out out_now log log_mid log_now a w
 
 -- ---- the command `plan`
 
@@ -221,7 +221,7 @@ module _ (o : Setup) (given path : List ℕ) (outcome : Outcome) (out : Option (
         logged = gained_all (plan_text (map listed_view shown), None) outcome out out_now b.reads log log_now wrote b.logged;
       }
 
-module _ (built : Ask → Bool) (files : Files) (q : Requested) where
+module _ (files : Files) (q : Requested) where
   pub planned_of : (outcome : Outcome) (r : Refusal) (out : Option (List ℕ)) (log log_now : Option (List Read))
       → outcome ≡ refused_outcome r → AreSettingsRead files q.settings (Err r) log log_now → IsPlan files q outcome out out log log_now
   unfolding plan_due
@@ -250,7 +250,7 @@ module _ (due : Due) (out out_now : Option (List ℕ)) where
   pub packed_gains : (end : PackEnd) (outcome : Outcome) → outcome ≡ pack_outcome end → IsPackedAs due end out out_now → GainsDue due outcome out out_now
   packed_gains end outcome e put = subst (λ (told : Outcome). GainsDue due told out out_now) (sym e) (gains_by end put)
 
-module _ (built : Ask → Bool) (files : Files) (q : Requested) where
+module _ (files : Files) (q : Requested) where
   pub packed_of : (outcome : Outcome) (r : Refusal) (out : Option (List ℕ)) (log log_now : Option (List Read))
       → outcome ≡ refused_outcome r → AreSettingsRead files q.settings (Err r) log log_now → IsPack files q outcome out out
   unfolding pack_due

@@ -1,12 +1,12 @@
 -- How a run ends, what it has written and what it has read; this project's own.
 use Rattle.std.specs.Prelude.{◌≡◌, ℕ, Bool, true, false, List, [], Option, Some, None, Result}
-use Rattle.vod_types.specs.declared.paths.Ask.{Ask}
+use Rattle.vod_types.specs.declared.paths.Leaf.{Leaf}
 use Rattle.vod_types.specs.declared.refusal.Refusal.{Refusal}
 use Rattle.vod_types.specs.declared.refusal.Refusal.TheVariants as refusals
 use Rattle.vod_types.specs.Settled.{Settled}
 use Rattle.list_model.specs.Command.{Requested, Outcome, done, usage, refused, store_failed, sink_failed, no_memory, door_failed, outcome_status}
 use Rattle.vod_source.specs.Stored.{Files, Read}
-use Rattle.origin_model.specs.Answers.{answer, path_rows}
+use Rattle.origin_model.specs.Answers.{answer, every_leaf, is_index, path_rows}
 use Rattle.origin_model.specs.Outcomes.{AreRunReads, Due, GainsDue, GainsLine, GainsReads, due_answer, due_rows, get_due, pack_due, plan_due, settings_named, settings_reads}
 use Rattle.origin_model.specs.Packaging.{packed_path}
 use Rattle.origin_model.specs.Reads.{AreReads}

@@ -57,7 +57,7 @@ pub struct Ended<S> {
 /// | `turns ROOT SETTINGS ADDR COUNT` | nothing: COUNT connections to ADDR, at most 64, are served in turns |
 /// | `rehearse N` | one line on the film of N, which is made in memory, packed, and asked for segment by segment |
 ///
-/// `get` answers every path of the grammar but that of a clip, which it refuses as a form that isn't built; `plan` answers media
+/// `get` answers every path of the grammar; `plan` answers media
 /// playlists. Times are in 1/90000 s, and a line has one space between its numbers. `pack` writes a line `NAME LENGTH`, or
 /// `NAME LENGTH cut 28 BadNal`, before the bytes of a name, and a line `NAME refused N WORD` for a name that is refused; before the
 /// first list that is refused it ends.

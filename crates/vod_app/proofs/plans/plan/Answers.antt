@@ -6,9 +6,9 @@ use Rattle.vod_app.proofs.plans.plan.Goals as goal
 pub returns-in-Err-clause-planned : goal.returns-in-Err-clause-planned
 returns-in-Err-clause-planned g c =
     told_with_all (g.S.Store.content c.args.store.now) _ _ c.in-Err.ensures.told
-    (λ files a. planned_of _ files (requested c.args.request) _ c.in-Err.refusal _ _ _ c.refused.ensures a)
+    (λ files a. planned_of files (requested c.args.request) _ c.in-Err.refusal _ _ _ c.refused.ensures a)
 
 pub returns-in-Ok-clause-planned : goal.returns-in-Ok-clause-planned
 returns-in-Ok-clause-planned g c =
     told_with_other _ _ _ _ _ c.in-Ok.ensures.content c.in-Ok.ensures.told c.plan_with.ensures.planned
-    (λ files a w. planned_with _ files (requested c.args.request) c.in-Ok.settings _ _ _ _ _ _ a w)
+    (λ files a w. planned_with files (requested c.args.request) c.in-Ok.settings _ _ _ _ _ _ a w)

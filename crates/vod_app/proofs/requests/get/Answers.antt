@@ -6,9 +6,9 @@ use Rattle.vod_app.proofs.requests.get.Goals as goal
 pub returns-in-Err-clause-got : goal.returns-in-Err-clause-got
 returns-in-Err-clause-got g c =
     told_with_all (g.S.Store.content c.args.store.now) _ _ c.in-Err.ensures.told
-    (λ files a. got_of _ files (requested c.args.request) _ c.in-Err.refusal _ _ _ c.refused.ensures a)
+    (λ files a. got_of files (requested c.args.request) _ c.in-Err.refusal _ _ _ c.refused.ensures a)
 
 pub returns-in-Ok-clause-got : goal.returns-in-Ok-clause-got
 returns-in-Ok-clause-got g c =
     told_with_other _ _ _ _ _ c.in-Ok.ensures.content c.in-Ok.ensures.told c.get_with.ensures.got
-    (λ files a w. got_with _ files (requested c.args.request) c.in-Ok.settings _ _ _ _ _ _ a w)
+    (λ files a w. got_with files (requested c.args.request) c.in-Ok.settings _ _ _ _ _ _ a w)
