@@ -212,6 +212,76 @@ def init(tracks):
     return box(b"ftyp", b"iso6", u32(0), b"iso6", b"dash") + box(b"moov", *boxes, box(b"mvex", *ends))
 
 
+# Clips
+
+
+MATRIX = u32(0x10000, 0, 0, 0, 0x10000, 0, 0, 0, 0x40000000)
+
+
+def u64(*numbers):
+    return struct.pack(f">{len(numbers)}q", *numbers)
+
+
+def durations(own):
+    return [min(own[i + 1].time - row.time if i + 1 < len(own) else row.lasts, 0xFFFFFFFF) for i, row in enumerate(own)]
+
+
+def clip_track(kind, own, places, late):
+    """A `trak` of rows that stand at these places; the track begins so late."""
+    is_video, track = kind == "v", own[0].track
+    lasts = own[-1].time + durations(own)[-1] - own[0].time
+    size = u32(640 << 16, 360 << 16) if is_video else u32(0, 0)
+    loud = b"\0\0" if is_video else b"\1\0"
+    about = u64(0, 0) + u32(1 if is_video else 2, 0) + u64(lasts + late)
+    header = full(b"tkhd", about, bytes(8), bytes(4), loud, bytes(2), MATRIX, size, version=1, flags=7)
+    edits = []
+    if late:
+        edits = [box(b"edts", full(b"elst", u32(2), u64(late, -1), u32(0x10000), u64(lasts, 0), u32(0x10000), version=1))]
+    entry = track.entry[:14] + b"\0\1" + track.entry[16:]
+    syncs = [i + 1 for i, row in enumerate(own) if row.sync]
+    tables = [
+        full(b"stsd", u32(1), entry),
+        full(b"stts", u32(len(own)), *(u32(1, it) for it in durations(own))),
+        full(b"ctts", u32(len(own)), *(struct.pack(">Ii", 1, row.shown - row.time) for row in own), version=1),
+        *([full(b"stss", u32(len(syncs), *syncs))] if is_video else []),
+        full(b"stsc", u32(1, 1, 1, 1)),
+        full(b"stsz", u32(0, len(own), *(len(row.data) for row in own))),
+        full(b"co64", u32(len(own)), u64(*places)),
+    ]
+    media = box(
+        b"mdia",
+        full(b"mdhd", u64(0, 0), u32(UNITS), u64(lasts), b"\x55\xc4\0\0", version=1),
+        full(b"hdlr", u32(0), b"vide" if is_video else b"soun", bytes(13)),
+        box(
+            b"minf",
+            full(b"vmhd", bytes(8), flags=1) if is_video else full(b"smhd", u32(0)),
+            box(b"dinf", full(b"dref", u32(1), full(b"url ", flags=1))),
+            box(b"stbl", *tables),
+        ),
+    )
+    return box(b"trak", header, *edits, media), lasts + late
+
+
+def clip(rows, lead):
+    """The whole clip of selected rows: with places that are counted from its media, and then with the true ones."""
+    kinds = [kind for kind in ("v", "a") if rows.get(kind)]
+    begins = rows[lead][0].time
+    order = sorted(((row.time, "va".index(kind), i, kind) for kind in kinds for i, row in enumerate(rows[kind])))
+    start = 0
+    for _ in range(2):
+        places, at = {kind: [] for kind in kinds}, start
+        for _, _, i, kind in order:
+            places[kind].append(at)
+            at += len(rows[kind][i].data)
+        tracks = [clip_track(kind, rows[kind], places[kind], rows[kind][0].time - begins) for kind in kinds]
+        lasts = max(it for _, it in tracks)
+        header = full(b"mvhd", u64(0, 0), u32(UNITS), u64(lasts), u32(0x10000), b"\1\0", bytes(10), MATRIX, bytes(24), u32(3), version=1)
+        front = box(b"ftyp", b"isom", u32(0), b"isom", b"mp42") + box(b"moov", header, *(it for it, _ in tracks))
+        start = len(front) + 16
+    media = b"".join(rows[kind][i].data for _, _, i, kind in order)
+    return front + u32(1) + b"mdat" + u64(16 + len(media)) + media
+
+
 # Transport streams
 
 
@@ -421,6 +491,14 @@ def answer(films, mapping, settings, ask):
         if not kept:
             raise Refused(46)
         return init(checked(films, kept[0], asked, honoured)), True
+    if ask["list"] == "clip":
+        pieces = [piece for _, _, kept in parts for piece in kept]
+        if len(pieces) > 1:
+            raise Refused(18)
+        rows = selected(pieces[0], checked(films, pieces[0], asked, honoured), lead, honoured)
+        if not rows[lead]:
+            raise Refused(17)
+        return clip(rows, lead), True
     declared = all(length is not None for _, length, _ in parts)
     if "number" not in ask:
         return index(films, grid, align, honoured, settings, parts, declared, ask, lead), True

@@ -339,6 +339,8 @@ def draw_ask(draw, is_mapped, names):
         leaf = f"init-c{ask['part']}-f{ask['sequence']}-{named}.mp4"
     elif kind < 0.4:
         proto, leaf = "hls", f"index-f{ask['sequence']}-{named}.m3u8"
+    elif kind < 0.48:
+        ask["list"], leaf = "clip", f"clip-f{ask['sequence']}-{named}.mp4"
     else:
         ask["number"] = draw.choice([0, 1, 1, 2, 2, 3, 4, draw.randint(1, 9), draw.randint(1, 40)])
         ask["stream"] = proto == "hls" and draw.random() < 0.8
@@ -360,6 +362,10 @@ class ByGet:
         ran = subprocess.run([self.program, "get", ".", "s.json", path], cwd=self.folder, capture_output=True)
         return ran.returncode, ran.stdout, ran.stderr
 
+    def part(self, path, whole, draw):
+        """It takes no range."""
+        return True
+
     def end(self):
         pass
 
@@ -376,6 +382,16 @@ class ByServe:
         if status != 200:
             return 2, b"", body
         return (0, body, b"") if whole else (2, body, b"refused 28 BadNal\n")
+
+    def part(self, path, whole, draw):
+        """Whether a range of a clip is that part of it."""
+        first = draw.randrange(len(whole))
+        last = draw.choice([first, draw.randrange(first, len(whole)), len(whole) + 5])
+        asked = draw.choice([f"{first}-{last}", f"{first}-", f"-{len(whole) - first}"])
+        until = min(last, len(whole) - 1) if asked == f"{first}-{last}" else len(whole) - 1
+        status, fields, body, _ = self.asker.ask(path, fields=f"Range: bytes={asked}\r\n")
+        told = fields.get("content-range")
+        return (status, body, told) == (206, whole[first : until + 1], f"bytes {first}-{until}/{len(whole)}")
 
     def end(self):
         self.asker.close()
@@ -426,6 +442,9 @@ def ask_all(way, draw, folder, counts, films, mapped, settings, names):
             print(f"want {want[0]} {len(want[1])} bytes {want[2]}, have {status} {len(got)} bytes {told}")
             with open(f"{folder}/want", "wb") as file:
                 file.write(want[1])
+            return False
+        if status == 0 and ask["list"] == "clip" and not way.part(path, body, draw):
+            print(f"differs: a range of {path}")
             return False
     return True
 

@@ -90,12 +90,12 @@ class Asker:
     def __init__(self, served):
         self.served, self.link, self.file = served, None, None
 
-    def ask(self, path, method="GET"):
-        """The status of the reply, its fields, its body, and whether that is whole."""
+    def ask(self, path, method="GET", fields=""):
+        """The status of the reply to a head with these further fields, the reply's fields, its body, and whether that is whole."""
         if self.link is None:
             self.link = self.served.connect()
             self.file = self.link.makefile("rb")
-        self.link.sendall(f"{method} {path} HTTP/1.1\r\nHost: x\r\n\r\n".encode())
+        self.link.sendall(f"{method} {path} HTTP/1.1\r\nHost: x\r\n{fields}\r\n".encode())
         status = int(self.file.readline().split()[1])
         fields = {}
         while line := self.file.readline().strip():

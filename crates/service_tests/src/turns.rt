@@ -1,6 +1,6 @@
 //! Connections in turns over one origin.
 
-ghost use Rattle.std.specs.Prelude.{None};
+ghost use Rattle.std.specs.Prelude.{None, ◌≡◌, ◌<◌, true, All};
 ghost use Rattle.std.proofs.Common.{refl};
 
 use std::alloc::Global;
@@ -13,7 +13,7 @@ use vod_films::{film, ran, sound, store_of, two_samples};
 use vod_origin::Origin;
 use vod_session::{LinkEnd, Why};
 use vod_source::{Link, LinkFailed, MemLink, MemStore, Sink, SinkFailed};
-use vod_turns::serve_turns;
+use vod_turns::{LinkState, run_turns, serve_turns};
 use vod_types::{Name, Settings};
 
 // A request for the one segment of the film of two samples, and the head of its reply.
@@ -28,6 +28,46 @@ const NOT_FOUND: &str =
 // The film of two samples.
 fn store(alloc: Global) -> Result<MemStore, Fail> {
     store_of(alloc, "/r/a.mp4", two_samples(alloc)?, Vec::new(alloc))
+}
+
+// Whether each number names one of so many links.
+fn name_links(order: &[u32], count: usize) -> bool
+    ensures { result ≡ true → All (λ n. n < count) order.now }
+{
+    for number in order {
+        if *number as usize >= count {
+            return false;
+        }
+    }
+    true
+}
+
+// How these links stand after steps in an order, over one origin, where each number of it names a link.
+fn in_order(
+    alloc: Global,
+    store: MemStore,
+    links: &mut [MemLink],
+    order: &[u32],
+) -> Result<Vec<LinkState>, Fail> {
+    if !name_links(order, links.len()) {
+        return Ok(Vec::new(alloc));
+    }
+    let root = Name::new(alloc, "/r")?;
+    let mut origin = Origin::new(store, Settings::defaults(alloc), root);
+    let states = run_turns(alloc, &mut origin, links, order);
+    let _store = origin.into_store();
+    Ok(states?)
+}
+
+// A link that gives a request twice in pieces of one byte.
+fn byte_link(alloc: Global) -> Result<MemLink, Fail> {
+    let mut pieces = Vec::new(alloc);
+    for _ in 0..2 {
+        for byte in REQUEST.as_bytes() {
+            pieces.push(vec![in alloc; *byte]?)?;
+        }
+    }
+    Ok(MemLink::new(alloc, pieces, 10_000, Vec::new(alloc))?)
 }
 
 // Serves these links to their ends in turns, over one origin.
@@ -61,6 +101,36 @@ fn ended(requests: u32) -> LinkEnd {
         requests,
         why: Why::EndOfInput,
     }
+}
+
+// Two links in turns are answered both, and a link that no number of an order names isn't touched.
+#[test]
+fn steps_of_an_order_serve_whom_they_name(rt: HostRuntime) -> Result<(), Fail> {
+    let alloc = rt.alloc();
+    let twice = replies(alloc, 2)?;
+    let mut by_turns = Vec::new(alloc);
+    let mut second_alone = Vec::new(alloc);
+    for number in 0..400 {
+        by_turns.push(number % 2)?;
+        if number < 200 {
+            second_alone.push(1)?;
+        }
+    }
+    for (order, both) in [(by_turns, true), (second_alone, false)] {
+        let mut links = vec![in alloc; byte_link(alloc)?, byte_link(alloc)?]?;
+        let states = in_order(alloc, store(alloc)?, &mut links, &order)?;
+        assert!(rt; states.len() == 2);
+        for (number, (state, link)) in states.iter().zip(&links).enumerate() {
+            if both || number == 1 {
+                assert!(rt; link.written() == twice.as_slice());
+                assert!(rt; state.end == Some(ended(2)));
+            } else {
+                assert!(rt; link.written().is_empty());
+                assert!(rt; state.progress == 0 && state.end.is_none());
+            }
+        }
+    }
+    Ok(())
 }
 
 // A film of one sample that bears a number.
