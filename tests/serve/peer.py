@@ -111,15 +111,15 @@ class Asker:
             length = int(fields["content-length"])
             body = self.file.read(length)
             return body, len(body) == length
-        body = b""
+        chunks = []
         while line := self.file.readline().strip():
             size = int(line, 16)
-            body += self.file.read(size)
+            chunks.append(self.file.read(size))
             if len(self.file.read(2)) < 2:
-                return body, False
+                return b"".join(chunks), False
             if size == 0:
-                return body, True
-        return body, False
+                return b"".join(chunks), True
+        return b"".join(chunks), False
 
     def close(self):
         if self.link is not None:
