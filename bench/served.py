@@ -3,11 +3,12 @@
 
 usage: bench/served.py [PROGRAM]
 
-PROGRAM is the built vodpack, by default crates/vodpack/out/vodpack. The film is that of bench/segment.py: one hour, with a movie box
-of 2 MB. Segments last 50 seconds, so that a fragment has 3 MB. On one connection each name is asked for once, so that the metadata are
-kept, and then many times; what `serve` took for that is divided by the number of replies. nginx, where it is there, gives the
-fragment as a file without sendfile, and 50 seconds of the film by its mp4 module where that is there; dd copies as many bytes. All
-in one run: the ratios are what counts. The status is 0.
+PROGRAM is the built vodpack, by default crates/vodpack/out/vodpack. ffmpeg makes a minute of film and joins sixty of it to an hour, with a
+movie box of some 2.5 MB; without ffmpeg it is the film of bench/segment.py, which nginx's mp4 module doesn't read. Segments last 50
+seconds, so that a fragment has some 3 MB. On one connection each name is asked for once, so that the metadata are kept, and then many
+times; what `serve` took for that is divided by the number of replies. nginx, where it is there, gives the fragment as a file without
+sendfile, and 50 seconds of the film by its mp4 module where that is there; dd copies as many bytes. All in one run: the ratios are what
+counts. The status is 0.
 """
 import os
 import resource
@@ -29,6 +30,23 @@ daemon off; master_process off; pid %(folder)s/pid; error_log %(folder)s/log;%(l
 events {}
 http { access_log off; sendfile off; keepalive_requests 100000; server { listen 127.0.0.1:%(port)d; root %(folder)s; location /film.mp4 { %(mp4)s } } }
 """
+
+
+MINUTE = [
+    *("-f", "lavfi", "-i", "testsrc2=size=640x360:rate=25:duration=60", "-f", "lavfi", "-i", "sine=frequency=440:sample_rate=48000:duration=60"),
+    *("-c:v", "libx264", "-preset", "ultrafast", "-bf", "0", "-g", "50", "-b:v", "430k", "-minrate", "430k", "-maxrate", "430k", "-bufsize", "430k"),
+    *("-x264-params", "nal-hrd=cbr", "-pix_fmt", "yuv420p", "-c:a", "aac", "-b:a", "64k", "minute.mp4"),
+]
+
+
+def make_film(folder):
+    """An hour of film."""
+    if shutil.which("ffmpeg") is None:
+        write_film(f"{folder}/film.mp4")
+        return os.path.getsize(f"{folder}/film.mp4")
+    for words in (MINUTE, ["-stream_loop", "59", "-i", "minute.mp4", "-c", "copy", "-movflags", "+faststart", "film.mp4"]):
+        subprocess.run(["ffmpeg", "-nostdin", "-v", "error", *words], cwd=folder, check=True)
+    return os.path.getsize(f"{folder}/film.mp4")
 
 
 def spent(pid):
@@ -97,10 +115,10 @@ def main():
     folder = tempfile.mkdtemp()
     try:
         os.chmod(folder, 0o755)
-        movie = write_film(f"{folder}/film.mp4")
+        size = make_film(folder)
         with open(f"{folder}/s.json", "w") as file:
             file.write('{"segment_ms":50000}')
-        print(f"movie box {movie} bytes; processor time of one reply, over {REPLIES}")
+        print(f"film {size} bytes; processor time of one reply, over {REPLIES}")
         served = Served(program, folder, 1000, f"{folder}/s.json")
         fragment = b""
         for name in NAMES:
