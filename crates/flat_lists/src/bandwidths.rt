@@ -16,7 +16,7 @@ use vod_types::{Kind, Steps};
 
 /// The bits per second of a track of a kind in a sequence: those that the mapping names, and else the average over the whole
 /// track, rounded up, at least 1.
-pub(crate) fn bandwidth(mapping: &Mapping, sequence: u32, kind: Kind, track: &TrackView<'_>) -> u128
+pub fn bandwidth(mapping: &Mapping, sequence: u32, kind: Kind, track: &TrackView<'_>) -> u128
     requires { IsInRange 1 (length mapping.now.sequences) sequence }
     ensures value { result ≡ bandwidth_of (option_and_then (bitrate_of kind) (sequence_at mapping.now sequence))
         (sum (sample_sizes (tables_of track.now.tables))) track.now.timescale (sum (sample_deltas (tables_of track.now.tables))) }
@@ -81,8 +81,8 @@ fn run_time(count: u32, delta: u32) -> u128
     u128::from(count) * u128::from(delta)
 }
 
-// The bits per second of so many bytes in a time of a timescale, rounded up, at least 1.
-fn average(bytes: u128, timescale: u32, time: u128) -> u128
+/// The bits per second of so many bytes in a time of a timescale, rounded up, at least 1.
+pub fn average(bytes: u128, timescale: u32, time: u128) -> u128
     requires bytes { bytes ≤ 2 ^ 64 }
     requires time { time ≤ 2 ^ 96 }
     ensures value { result ≡ bandwidth_of None bytes timescale time }

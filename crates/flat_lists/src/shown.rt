@@ -184,14 +184,46 @@ fn shown_of(mapping: &Mapping, sequence: u32, asked: Asked, tracks: &CheckedTrac
     ensures video { result.video_bandwidth ≤ 2 ^ 100 }
     ensures audio { result.audio_bandwidth ≤ 2 ^ 100 }
 {
+    let video_bandwidth = bandwidth_if(mapping, sequence, Kind::Video, tracks.video);
+    let audio_bandwidth = bandwidth_if(mapping, sequence, Kind::Audio, tracks.audio);
+    shown_as(
+        sequence,
+        asked,
+        video_bandwidth,
+        audio_bandwidth,
+        tracks.video,
+        tracks.audio,
+    )
+}
+
+/// What is said of a sequence by the asked tracks of its first piece, which have so many bits per second.
+pub fn shown_as(
+    sequence: u32,
+    asked: Asked,
+    video_bandwidth: u128,
+    audio_bandwidth: u128,
+    video: Option<TrackView<'_>>,
+    audio: Option<TrackView<'_>>,
+) -> Shown
+    requires { IfSome video (λ v. v.fourcc ≡ entry_type v.entry.now) }
+    ensures { result ≡ record {
+      sequence = sequence;
+      asked = asked;
+      video_bandwidth = video_bandwidth;
+      audio_bandwidth = audio_bandwidth;
+      size = option_map (λ t. (t.width, t.height)) (option_map good_of video.entry);
+      video = option_map video_codec_name (option_map good_of video.entry);
+      aac = option_map aac_of (option_map good_of audio.entry);
+    } }
+{
     Shown {
         sequence,
         asked,
-        video_bandwidth: bandwidth_if(mapping, sequence, Kind::Video, tracks.video),
-        audio_bandwidth: bandwidth_if(mapping, sequence, Kind::Audio, tracks.audio),
-        size: size_of(tracks.video),
-        video: name_of(tracks.video),
-        aac: type_of(tracks.audio),
+        video_bandwidth,
+        audio_bandwidth,
+        size: size_of(video),
+        video: name_of(video),
+        aac: type_of(audio),
     }
 }
 
