@@ -45,7 +45,7 @@ some_if kind f (Some n) None h = absurd h
 some_if kind f (Some n) (Some t) h = (λ some. refl, λ some. refl)
 
 pub shown_is : (m : Mapping) (count sequence : ℕ) (asked : Asked) (c : CheckedPiece) (s : Shown) → s ≡ shown_of m sequence asked c.video c.audio → IsInRange 1 count sequence → sequence ≤ 9999
-    → IsAsked asked → IsSoundPiece asked c → s.video_bandwidth ≤ 2 ^ 100 → s.audio_bandwidth ≤ 2 ^ 100 → IsShown count s
+    → IsAsked asked → IsSoundPiece asked c → s.video_bandwidth ≤ 2 ^ 102 → s.audio_bandwidth ≤ 2 ^ 102 → IsShown count s
 shown_is m count sequence asked c s e number small numbers sound video audio = record {
   number = subst (λ (s : Shown). IsInRange 1 count s.sequence) (sym e) number;
   bandwidths = record { video = video; audio = audio };

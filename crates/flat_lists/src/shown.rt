@@ -181,8 +181,8 @@ fn shown_of(mapping: &Mapping, sequence: u32, asked: Asked, tracks: &CheckedTrac
     requires sequence { IsInRange 1 (length mapping.now.sequences) sequence }
     requires fourcc { IfSome tracks.now.video (λ v. v.fourcc ≡ entry_type v.entry.now) }
     ensures value { result ≡ shown_of mapping.now sequence asked (option_map good_of tracks.now.video) (option_map good_of tracks.now.audio) }
-    ensures video { result.video_bandwidth ≤ 2 ^ 100 }
-    ensures audio { result.audio_bandwidth ≤ 2 ^ 100 }
+    ensures video { result.video_bandwidth ≤ 2 ^ 102 }
+    ensures audio { result.audio_bandwidth ≤ 2 ^ 102 }
 {
     let video_bandwidth = bandwidth_if(mapping, sequence, Kind::Video, tracks.video);
     let audio_bandwidth = bandwidth_if(mapping, sequence, Kind::Audio, tracks.audio);
@@ -231,7 +231,7 @@ pub fn shown_as(
 fn bandwidth_if(mapping: &Mapping, sequence: u32, kind: Kind, track: Option<TrackView<'_>>) -> u128
     requires { IsInRange 1 (length mapping.now.sequences) sequence }
     ensures value { result ≡ option_map_or (bandwidth_in mapping.now sequence kind) (option_map good_of track.entry) 0 }
-    ensures bound { result ≤ 2 ^ 100 }
+    ensures bound { result ≤ 2 ^ 102 }
 {
     match track {
         Some(track) => bandwidth(mapping, sequence, kind, &track),

@@ -1,6 +1,6 @@
 //! Master playlists, by the first piece of each sequence.
 
-ghost use Rattle.std.specs.Prelude.{◌≡◌, ◌≤◌, IfErr, IfSome, IsErrOf};
+ghost use Rattle.std.specs.Prelude.{◌≡◌, ◌≤◌, ◌+◌, ◌*◌, IfErr, IfSome, IsErrOf, length};
 ghost use Rattle.vod_types.specs.declared.paths.Leaf.TheVariants.{Master};
 ghost use Rattle.vod_types.specs.declared.refusal.Refusal.TheVariants.{StoreFailed};
 ghost use Rattle.vod_source.specs.Calls.{Came};
@@ -24,6 +24,8 @@ use vod_types::{Refusal, Settings, Steps};
 /// first piece exposes, and by the setting the lines of its I-frame playlists. Of the files the movies of these pieces are
 /// read, and one that is kept not at all.
 ///
+/// It takes at most 768 looks at tables for each sequence.
+///
 /// Refused, sequence by sequence, where the sequence has no piece, and with the first fault of its first piece.
 pub fn master_playlist<S: Store, L: Ledger>(
     alloc: Global,
@@ -42,6 +44,7 @@ pub fn master_playlist<S: Store, L: Ledger>(
     ensures cache { IfSome (S.content store.old) (λ files.
         LeavesCache files (turn_names (setup_of settings.now root.now files) (asking_view asking.now) Master) result (names_held metas.old) (names_held metas.new)) }
     ensures held { IfSome (S.content store.old) (λ files. AreTrue files metas.new) }
+    ensures looks { steps.new ≤ steps.old + 768 * length asking.now.mapping.sequences }
     ensures content { S.content store.new ≡ S.content store.old }
     ensures later { S.faults store.old ≤ S.faults store.new }
     ensures store_failed { IsErrOf result StoreFailed → Rose (S.faults store.old) (S.faults store.new) }

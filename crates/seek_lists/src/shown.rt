@@ -1,6 +1,6 @@
 //! The sequences of a request as a master playlist shows them, each by its first piece.
 
-ghost use Rattle.std.specs.Prelude.{◌≡◌, ◌≤◌, ◌^◌, [], ◌∷◌, All, IfErr, IfOk, IfSome, IsErrOf, length};
+ghost use Rattle.std.specs.Prelude.{◌≡◌, ◌≤◌, ◌+◌, ◌*◌, ◌^◌, [], ◌∷◌, All, IfErr, IfOk, IfSome, IsErrOf, length};
 ghost use Rattle.std.specs.Int.{IsInRange};
 ghost use Rattle.std.specs.Rc.{rc_value};
 ghost use Rattle.vod_types.specs.declared.refusal.Refusal.TheVariants.{StoreFailed};
@@ -47,6 +47,7 @@ pub(crate) fn shown_sequences<S: Store, L: Ledger>(
         (shown_names (setup_of settings.now root.now files) (asking_view asking.now)) result
         (names_held metas.old) (names_held metas.new) (S.log store.old) (S.log store.new)) }
     ensures shown { IfOk result (λ shown. All (IsShown (length asking.now.mapping.sequences)) shown.items) }
+    ensures looks { steps.new ≤ steps.old + 768 * length asking.now.mapping.sequences }
     ensures held { IfSome (S.content store.old) (λ files. AreTrue files metas.new) }
     ensures content { S.content store.new ≡ S.content store.old }
     ensures later { S.faults store.old ≤ S.faults store.new }
@@ -87,6 +88,7 @@ fn look<S: Store, L: Ledger>(
         (first_names (setup_of settings.now root.now files) (asking_view asking.now) sequence) result
         (names_held metas.old) (names_held metas.new) (S.log store.old) (S.log store.new)) }
     ensures shown { IfOk result (IsShown (length asking.now.mapping.sequences)) }
+    ensures looks { steps.new ≤ steps.old + 768 }
     ensures held { IfSome (S.content store.old) (λ files. AreTrue files metas.new) }
     ensures content { S.content store.new ≡ S.content store.old }
     ensures later { S.faults store.old ≤ S.faults store.new }
@@ -124,6 +126,7 @@ fn look_at<S: Store, L: Ledger>(
         IsTurned files (λ shown. shown) (shown_by_piece (setup_of settings.now root.now files) (asking_view asking.now) sequence piece.now)
         (piece.now.name ∷ []) result (names_held metas.old) (names_held metas.new) (S.log store.old) (S.log store.new)) }
     ensures shown { IfOk result (IsShown (length asking.now.mapping.sequences)) }
+    ensures looks { steps.new ≤ steps.old + 768 }
     ensures held { IfSome (S.content store.old) (λ files. AreTrue files metas.new) }
     ensures content { S.content store.new ≡ S.content store.old }
     ensures later { S.faults store.old ≤ S.faults store.new }
@@ -152,6 +155,7 @@ fn shown_in<L: Ledger>(
     requires small { sequence ≤ 9999 }
     ensures answers { Answers (λ shown. shown) result (shown_in_movie edits mapping.now sequence piece.now (rc_value meta).movie) }
     ensures shown { IfOk result (IsShown (length mapping.now.sequences)) }
+    ensures looks { steps.new ≤ steps.old + 768 }
     ensures store { IsErrOf result StoreFailed → ⊥ }
     ensures refused { IfErr result IsPathRefusal }
 {
@@ -185,8 +189,9 @@ fn shown_of<L: Ledger>(
 ) -> Shown
     requires { IsInRange 1 (length mapping.now.sequences) sequence }
     ensures value { result ≡ shown_of mapping.now sequence asked (track_in meta.now.movie video) (track_in meta.now.movie audio) }
-    ensures video { result.video_bandwidth ≤ 2 ^ 100 }
-    ensures audio { result.audio_bandwidth ≤ 2 ^ 100 }
+    ensures video { result.video_bandwidth ≤ 2 ^ 102 }
+    ensures audio { result.audio_bandwidth ≤ 2 ^ 102 }
+    ensures looks { steps.new ≤ steps.old + 768 }
 {
     let video_bandwidth = bandwidth_if(mapping, sequence, Kind::Video, meta, video, steps);
     let audio_bandwidth = bandwidth_if(mapping, sequence, Kind::Audio, meta, audio, steps);

@@ -17,6 +17,8 @@ loop-sequence-init g c =
       content = refl;
       later = omega arith;
       held = c.requires.held;
+      looks = omega arith;
+      first = omega arith;
       shown = subst (All (IsShown count)) (sym c.new-all.ensures.items) (All-nil (IsShown count));
       way = told_all (g.S.Store.content c.args.store.now) _ (λ known.
           ways_begin known _ _ _ _ c.new-all.result.items _ (g.S.Store.log c.args.store.now) (all_numbers count (c.sequences-end.result + 1) end) c.new-all.ensures.items);
@@ -46,6 +48,8 @@ loop-sequence-preserved g c =
     record {
       content = c.in-Ok.ensures.content ∙ c.loop-sequence.invariant.content;
       later = omega (arith, c.in-Ok.ensures.later, c.loop-sequence.invariant.later);
+      looks = omega (arith, c.in-Ok.ensures.looks, c.loop-sequence.invariant.looks, c.loop-sequence.invariant.first);
+      first = omega (arith, c.loop-sequence.invariant.first);
       held = subst (λ o. IfSome o (λ known. AreTrue known c.look.new.metas)) (sym c.in-Ok.ensures.content) c.in-Ok.ensures.held;
       shown = subst (All each) (sym more) (All-append each before (c.in-Ok.shown ∷ []) c.loop-sequence.invariant.shown (All-cons each c.in-Ok.shown [] c.in-Ok.ensures.shown (All-nil each)));
       way = told_with_other (g.S.Store.content c.args.store.now) _ _ _ _ c.loop-sequence.invariant.content c.loop-sequence.invariant.way c.in-Ok.ensures.told

@@ -1,5 +1,5 @@
 -- So many sequences are shown, and the steps that are left give the others.
-use Rattle.std.proofs.Common.{◌≡◌, ◌≤◌, ◌-◌, length, All, IfSome}
+use Rattle.std.proofs.Common.{◌≡◌, ◌≤◌, ◌+◌, ◌-◌, ◌*◌, length, All, IfSome}
 use Rattle.std.specs.List.{range_with_len}
 use Rattle.flat_lists.specs.Asked.{asking_view, setup_of}
 use Rattle.flat_lists.specs.Shown.{IsShown, first_names, shown_due}
@@ -12,6 +12,8 @@ invariant-loop-sequence g l = record {
   content : g.S.Store.content l.store ≡ g.S.Store.content l.fn.store;
   later : g.S.Store.faults l.fn.store ≤ g.S.Store.faults l.store;
   held : IfSome (g.S.Store.content l.store) (λ known. AreTrue known l.metas);
+  looks : l.steps ≤ l.fn.steps + 768 * (l.sequence - 1);
+  first : 1 ≤ l.sequence;
   shown : All (IsShown (length l.asking.mapping.sequences)) l.all.items;
   way : IfSome (g.S.Store.content l.fn.store) (λ known.
       IsWay known (shown_due (setup_of l.settings l.root known) (asking_view l.asking)) (first_names (setup_of l.settings l.root known) (asking_view l.asking))
