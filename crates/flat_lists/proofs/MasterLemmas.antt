@@ -19,11 +19,12 @@ use Rattle.vod_source.specs.Told.{told_with}
 use Rattle.vod_source.proofs.CallLemmas.{came-read}
 use Rattle.origin_model.specs.Lists.{ShownSequence, iframe_variant_of, master_text, sequence_numbers, shown_sequence, shown_sequences, variant_of}
 use Rattle.origin_model.specs.Plans.{pieces_or_none}
-use Rattle.origin_model.specs.Reads.{turn_pieces, turns}
+use Rattle.origin_model.specs.Reads.{turn_names, turn_pieces, turns}
 use Rattle.origin_model.specs.Requests.{Setup, Asking, timeline_asked}
 use Rattle.flat_lists.specs.declared.shown.Shown.{Shown}
 use Rattle.flat_lists.specs.Listings.{leaf_turns, master_due}
 use Rattle.flat_lists.specs.Shown.{all_shown, first_names, iframe_variant_by, rendition_by, shown_by, shown_due, shown_turns, text_by, variant_by}
+use Rattle.flat_lists.specs.Steps.{names_through}
 
 -- ---- lists
 
@@ -74,10 +75,10 @@ module _ (o : Setup) (a : Asking) where
       ap₂ (λ (vs ws : List Variant). master_playlist (ungrouped vs) (map (rendition_by a.mapping) (grouped vs)) ++ (if o.settings.iframes then iframe_stream_lines ws else []))
       (variants-are ss) (streams-are ss)
 
-  abbrev text_of : List Shown → List ℕ
+  abbrev pub text_of : List Shown → List ℕ
   text_of shown = text_by a.mapping o.settings.iframes shown
 
-  due-is : master_due o a ≡ (all_shown o a >>= λ shown. Ok (text_of shown))
+  pub due-is : master_due o a ≡ (all_shown o a >>= λ shown. Ok (text_of shown))
   unfolding shown_sequences
   due-is = by_list (each_in_turn (shown_sequence o a) (sequence_numbers o a)) ∙ ap (λ (r : Result (List Shown) Refusal). r >>= λ shown. Ok (text_of shown)) (sym (each-mapped (shown_sequence o a) (shown_by a.mapping) (sequence_numbers o a)))
     where
@@ -108,12 +109,14 @@ module _ (o : Setup) (a : Asking) where
   abbrev first_pieces : ℕ → List Piece
   first_pieces sequence = pieces_or_none (timeline_asked o a sequence >>= λ t. Ok (take 1 t.pieces))
 
-  reads-are : leaf_turns o a Master ≡ shown_turns o a
+  pub names-are : turn_names o a Master ≡ names_through (shown_due o a) (first_names o a) (sequence_numbers o a)
   unfolding turn_pieces
-  reads-are =
-      ap (λ (names : List (List ℕ)). (turns o.files [] names).reads)
-      (map-flat (λ (piece : Piece). piece.name) first_pieces (through_first (λ sequence. is_err (shown_sequence o a sequence)) (sequence_numbers o a))
-      ∙ ap (flat_map (first_names o a)) (through-agree (λ sequence. is_err (shown_sequence o a sequence)) (λ sequence. is_err (shown_due o a sequence)) same_fault (sequence_numbers o a)))
+  names-are =
+      map-flat (λ (piece : Piece). piece.name) first_pieces (through_first (λ sequence. is_err (shown_sequence o a sequence)) (sequence_numbers o a))
+      ∙ ap (flat_map (first_names o a)) (through-agree (λ sequence. is_err (shown_sequence o a sequence)) (λ sequence. is_err (shown_due o a sequence)) same_fault (sequence_numbers o a))
+
+  reads-are : leaf_turns o a Master ≡ shown_turns o a
+  reads-are = ap (λ (names : List (List ℕ)). (turns o.files [] names).reads) names-are
 
   -- ---- what it came to
 

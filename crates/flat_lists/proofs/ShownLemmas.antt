@@ -45,7 +45,7 @@ some_if kind f (Some n) None h = absurd h
 some_if kind f (Some n) (Some t) h = (λ some. refl, λ some. refl)
 
 pub shown_is : (m : Mapping) (count sequence : ℕ) (asked : Asked) (c : CheckedPiece) (s : Shown) → s ≡ shown_of m sequence asked c.video c.audio → IsInRange 1 count sequence → sequence ≤ 9999
-    → IsAsked asked → IsSoundPiece asked c → s.video_bandwidth ≤ 2 ^ 100 → s.audio_bandwidth ≤ 2 ^ 100 → IsShown count s
+    → IsAsked asked → IsSoundPiece asked c → s.video_bandwidth ≤ 2 ^ 102 → s.audio_bandwidth ≤ 2 ^ 102 → IsShown count s
 shown_is m count sequence asked c s e number small numbers sound video audio = record {
   number = subst (λ (s : Shown). IsInRange 1 count s.sequence) (sym e) number;
   bandwidths = record { video = video; audio = audio };
@@ -77,14 +77,14 @@ module _ (edits : Bool) (m : Mapping) (sequence : ℕ) (piece : Piece) (movie : 
 
 -- ---- by the files
 
-abbrev numbered : ℕ → Asked × CheckedPiece → ShownSequence
+abbrev pub numbered : ℕ → Asked × CheckedPiece → ShownSequence
 numbered sequence first = record { number = sequence; asked = first.0; first = first.1 }
 
 abbrev as_shown : Mapping → ℕ → Asked × CheckedPiece → Result Shown Refusal
 as_shown m sequence first = Ok (shown_by m (numbered sequence first))
 
 module _ (o : Setup) (a : Asking) (sequence : ℕ) (piece : Piece) where
-  abbrev in_movie : Movie → Result Shown Refusal
+  abbrev pub in_movie : Movie → Result Shown Refusal
   in_movie movie = shown_in_movie (honours_edits o) a.mapping sequence piece movie
 
   abbrev with_check : Asked → Result (Asked × CheckedPiece) Refusal
@@ -93,7 +93,7 @@ module _ (o : Setup) (a : Asking) (sequence : ℕ) (piece : Piece) where
   checked_loaded : (asked : Asked) (movie : Movie) → loaded o.files piece.name ≡ Ok movie → checked o.files (honours_edits o) asked piece ≡ checked_in (honours_edits o) asked piece movie
   checked_loaded asked movie e = checked-in o.files (honours_edits o) asked piece ∙ ap (λ (r : Result Movie Refusal). r >>= checked_in (honours_edits o) asked piece) e
 
-  by_movie : (movie : Movie) → loaded o.files piece.name ≡ Ok movie → shown_by_piece o a sequence piece ≡ in_movie movie
+  pub by_movie : (movie : Movie) → loaded o.files piece.name ≡ Ok movie → shown_by_piece o a sequence piece ≡ in_movie movie
   unfolding checked_first first_asked shown_in_movie
   by_movie movie e =
       ap (λ (r : Result Movie Refusal). ((r >>= λ m. asked_first piece.name (first_track piece m Video) (first_track piece m Audio)) >>= with_check) >>= as_shown a.mapping sequence) e
@@ -108,7 +108,7 @@ module _ (o : Setup) (a : Asking) (sequence : ℕ) (piece : Piece) where
           ap (λ (r : Result CheckedPiece Refusal). (r >>= λ c. Ok (asked, c)) >>= as_shown a.mapping sequence) (checked_loaded asked movie e) ∙ last asked (checked_in (honours_edits o) asked piece movie)
       each (Err e) = refl
 
-  by_fault : (e : Refusal) → loaded o.files piece.name ≡ Err e → shown_by_piece o a sequence piece ≡ Err e
+  pub by_fault : (e : Refusal) → loaded o.files piece.name ≡ Err e → shown_by_piece o a sequence piece ≡ Err e
   unfolding checked_first first_asked
   by_fault e is = ap (λ (r : Result Movie Refusal). ((r >>= λ m. asked_first piece.name (first_track piece m Video) (first_track piece m Audio)) >>= with_check) >>= as_shown a.mapping sequence) is
 
@@ -158,7 +158,7 @@ module _ (o : Setup) (a : Asking) (sequence : ℕ) (piece : Piece) where
 
 -- ---- by the timeline
 
-none_at : (ps : List Piece) → slice_get ps 0 ≡ None → ps ≡ []
+pub none_at : (ps : List Piece) → slice_get ps 0 ≡ None → ps ≡ []
 none_at [] e = refl
 none_at (p ∷ ps) e = absurd cc
 
@@ -167,20 +167,20 @@ one_at [] p e = absurd cc
 one_at (q ∷ ps) p e = ap (λ (q : Piece). q ∷ []) (same_Some q p e)
 
 module _ (o : Setup) (a : Asking) (sequence : ℕ) where
-  abbrev of_first : Piece → Result ShownSequence Refusal
+  abbrev pub of_first : Piece → Result ShownSequence Refusal
   of_first piece = checked_first o a piece >>= λ first. Ok (numbered sequence first)
 
-  abbrev of_timeline : Timeline → Result ShownSequence Refusal
+  abbrev pub of_timeline : Timeline → Result ShownSequence Refusal
   of_timeline t = ok_or (slice_get t.pieces 0) (NothingSelected sequence) >>= of_first
 
-  abbrev show : ShownSequence → Result Shown Refusal
+  abbrev pub show : ShownSequence → Result Shown Refusal
   show s = Ok (shown_by a.mapping s)
 
-  due_of : (r : Result Timeline Refusal) → timeline_asked o a sequence ≡ r → shown_due o a sequence ≡ ((r >>= of_timeline) >>= show)
+  pub due_of : (r : Result Timeline Refusal) → timeline_asked o a sequence ≡ r → shown_due o a sequence ≡ ((r >>= of_timeline) >>= show)
   unfolding shown_sequence
   due_of r e = ap (λ (r : Result Timeline Refusal). (r >>= of_timeline) >>= show) e
 
-  names_of : (r : Result Timeline Refusal) → timeline_asked o a sequence ≡ r → first_names o a sequence ≡ map (λ piece. piece.name) (pieces_or_none (r >>= λ t. Ok (take 1 t.pieces)))
+  pub names_of : (r : Result Timeline Refusal) → timeline_asked o a sequence ≡ r → first_names o a sequence ≡ map (λ piece. piece.name) (pieces_or_none (r >>= λ t. Ok (take 1 t.pieces)))
   names_of r e = ap (λ (r : Result Timeline Refusal). map (λ (piece : Piece). piece.name) (pieces_or_none (r >>= λ t. Ok (take 1 t.pieces)))) e
 
   -- it has the number of the sequence
@@ -256,7 +256,7 @@ numbers_from n end h = let many : end - n ≡ suc (end - (n + 1)) = omega arith 
 pub no_numbers : (n end : ℕ) → end ≤ n → range_with_len n (end - n) ≡ []
 no_numbers n end h = let none : end - n ≡ 0 = omega arith in ap (range_with_len n) none
 
-all_numbers : (count end : ℕ) → end ≡ count + 1 → range_with_len 1 count ≡ range_with_len 1 (end - 1)
+pub all_numbers : (count end : ℕ) → end ≡ count + 1 → range_with_len 1 count ≡ range_with_len 1 (end - 1)
 all_numbers count end e = let many : count ≡ end - 1 = omega arith in ap (range_with_len 1) many
 
 -- before the first

@@ -71,8 +71,8 @@ variant_by s = record { sequence = s.sequence; asked = s.asked; bandwidth = s.vi
 
 -- the sum of its bandwidths fits, also beside a group
 pub record HasBandwidths (s : Shown) : Type 0 where
-  pub video : s.video_bandwidth ≤ 2 ^ 100
-  pub audio : s.audio_bandwidth ≤ 2 ^ 100
+  pub video : s.video_bandwidth ≤ 2 ^ 102
+  pub audio : s.audio_bandwidth ≤ 2 ^ 102
 
 -- its number is that of a sequence, and it can be written
 pub record IsShown (count : ℕ) (s : Shown) : Type 0 where

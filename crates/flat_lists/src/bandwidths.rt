@@ -16,11 +16,11 @@ use vod_types::{Kind, Steps};
 
 /// The bits per second of a track of a kind in a sequence: those that the mapping names, and else the average over the whole
 /// track, rounded up, at least 1.
-pub(crate) fn bandwidth(mapping: &Mapping, sequence: u32, kind: Kind, track: &TrackView<'_>) -> u128
+pub fn bandwidth(mapping: &Mapping, sequence: u32, kind: Kind, track: &TrackView<'_>) -> u128
     requires { IsInRange 1 (length mapping.now.sequences) sequence }
     ensures value { result ≡ bandwidth_of (option_and_then (bitrate_of kind) (sequence_at mapping.now sequence))
         (sum (sample_sizes (tables_of track.now.tables))) track.now.timescale (sum (sample_deltas (tables_of track.now.tables))) }
-    ensures bound { result ≤ 2 ^ 100 }
+    ensures bound { result ≤ 2 ^ 102 }
 {
     match mapping.bitrate(sequence, kind) {
         Some(bitrate) => u128::from(bitrate),
@@ -34,7 +34,7 @@ fn counted_average<L: Ledger>(track: &TrackView<'_>, blank: Blank) -> u128
     requires parts { blank.parts ≡ L.parts }
     requires some { 0 < L.parts }
     ensures value { result ≡ bandwidth_of None (sum (sample_sizes (tables_of track.now.tables))) track.now.timescale (sum (sample_deltas (tables_of track.now.tables))) }
-    ensures bound { result ≤ 2 ^ 100 }
+    ensures bound { result ≤ 2 ^ 102 }
 {
     let mut steps = Steps::<L>::start(blank);
     let bytes = bytes_of(&track.tables, &mut steps);
@@ -81,12 +81,12 @@ fn run_time(count: u32, delta: u32) -> u128
     u128::from(count) * u128::from(delta)
 }
 
-// The bits per second of so many bytes in a time of a timescale, rounded up, at least 1.
-fn average(bytes: u128, timescale: u32, time: u128) -> u128
-    requires bytes { bytes ≤ 2 ^ 64 }
+/// The bits per second of so many bytes in a time of a timescale, rounded up, at least 1.
+pub fn average(bytes: u128, timescale: u32, time: u128) -> u128
+    requires bytes { bytes < 2 ^ 66 }
     requires time { time ≤ 2 ^ 96 }
     ensures value { result ≡ bandwidth_of None bytes timescale time }
-    ensures bound { result ≤ 2 ^ 100 }
+    ensures bound { result ≤ 2 ^ 102 }
 {
     if time == 0 {
         return 1;
@@ -97,9 +97,9 @@ fn average(bytes: u128, timescale: u32, time: u128) -> u128
 
 // The bits of so many bytes, times a timescale.
 fn bits_by(bytes: u128, timescale: u32) -> u128
-    requires { bytes ≤ 2 ^ 64 }
+    requires { bytes < 2 ^ 66 }
     ensures value { result ≡ 8 * bytes * timescale }
-    ensures bound { result ≤ 2 ^ 99 }
+    ensures bound { result ≤ 2 ^ 101 }
 {
     8 * bytes * u128::from(timescale)
 }

@@ -44,8 +44,8 @@ fn first_track(piece: &Piece, movie: &Movie, kind: Kind) -> Option<u8>
     }
 }
 
-// The refusal where a file has no v1, or want of memory for its name.
-fn no_video(alloc: Global, name: &str) -> Refusal
+/// The refusal where a file has no v1, or want of memory for its name.
+pub fn no_video(alloc: Global, name: &str) -> Refusal
     ensures { (result ≡ NoMemory) ⊎ (result ≡ NoTrack name.now (track_of_kind Video 1)) }
 {
     let track = TrackName {

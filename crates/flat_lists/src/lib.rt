@@ -28,10 +28,14 @@ mod track_rows;
 mod variants;
 
 pub use asking::asking_of;
+pub use bandwidths::{average, bandwidth};
 pub use description::presentation_description;
+pub use first_asked::no_video;
 pub use found_periods::presentation_periods;
 pub use iframes::iframe_rows;
 pub use listed_timeline::timeline_rows;
 pub use master::master_playlist;
-pub use shown::{Shown, shown_sequences};
+pub use part_tracks::{TrackFacts, facts_of_audio, facts_of_video};
+pub use shown::{Shown, shown_as, shown_sequences};
 pub use subject::Asking;
+pub use variants::text_of;

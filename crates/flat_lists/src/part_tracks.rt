@@ -7,10 +7,11 @@ ghost use Rattle.vod_types.specs.declared.tracks.Kind.TheVariants.{Video, Audio}
 ghost use Rattle.vod_types.specs.Results.{Answers};
 ghost use Rattle.mp4_model.specs.Entries.{entry_type};
 ghost use Rattle.mp4_model.specs.Samples.{sample_count};
+ghost use Rattle.mp4_model.specs.Video.{video_codec_name};
 ghost use Rattle.mp4_tables.specs.Views.{tables_of};
 ghost use Rattle.mp4_tracks.specs.Views.{good_of};
 ghost use Rattle.clip_model.specs.IsTimeline.{IsPiece};
-ghost use Rattle.origin_model.specs.Lists.{first_track};
+ghost use Rattle.origin_model.specs.Lists.{aac_of, first_track, rate_of};
 ghost use Rattle.origin_model.specs.Sources.{source_piece};
 ghost use Rattle.flat_samples.specs.Checks.{checked_view, AreSound};
 ghost use Rattle.flat_samples.specs.Rows.{rows_with};
@@ -28,13 +29,13 @@ use vod_types::{Asked, CodecName, Kind, Name, Refusal, TrackName};
 
 /// What a representation says of its track.
 #[derive(Clone, Copy)]
-pub(crate) struct TrackFacts {
-    pub(crate) kind: Kind,
-    pub(crate) bandwidth: u128,
-    pub(crate) size: (u16, u16),
-    pub(crate) video: Option<CodecName>,
-    pub(crate) aac: u8,
-    pub(crate) rate: u32,
+pub struct TrackFacts {
+    pub kind: Kind,
+    pub bandwidth: u128,
+    pub size: (u16, u16),
+    pub video: Option<CodecName>,
+    pub aac: u8,
+    pub rate: u32,
 }
 
 /// A track with its samples in pieces of a part, as if no track of the other kind was asked.
@@ -130,9 +131,24 @@ fn video_facts(mapping: &Mapping, sequence: u32, track: &TrackView<'_>) -> Track
     requires fourcc { track.now.fourcc ≡ entry_type track.now.entry.now }
     ensures { result ≡ facts_due mapping.now sequence Video (good_of track.now) }
 {
+    facts_of_video(bandwidth(mapping, sequence, Kind::Video, track), track)
+}
+
+/// What a representation says of a video track with so many bits per second.
+pub fn facts_of_video(bandwidth: u128, track: &TrackView<'_>) -> TrackFacts
+    requires { track.now.fourcc ≡ entry_type track.now.entry.now }
+    ensures { result ≡ record {
+      kind = Video;
+      bandwidth = bandwidth;
+      size = (track.now.width, track.now.height);
+      video = Some (video_codec_name (good_of track.now));
+      aac = 0;
+      rate = 0;
+    } }
+{
     TrackFacts {
         kind: Kind::Video,
-        bandwidth: bandwidth(mapping, sequence, Kind::Video, track),
+        bandwidth,
         size: (track.width, track.height),
         video: Some(codec_name(track)),
         aac: 0,
@@ -164,9 +180,23 @@ fn audio_facts(mapping: &Mapping, sequence: u32, track: &TrackView<'_>) -> Track
     requires sequence { IsInRange 1 (length mapping.now.sequences) sequence }
     ensures { result ≡ facts_due mapping.now sequence Audio (good_of track.now) }
 {
+    facts_of_audio(bandwidth(mapping, sequence, Kind::Audio, track), track)
+}
+
+/// What a representation says of an audio track with so many bits per second.
+pub fn facts_of_audio(bandwidth: u128, track: &TrackView<'_>) -> TrackFacts
+    ensures { result ≡ record {
+      kind = Audio;
+      bandwidth = bandwidth;
+      size = (0, 0);
+      video = None;
+      aac = aac_of (good_of track.now);
+      rate = rate_of (good_of track.now);
+    } }
+{
     TrackFacts {
         kind: Kind::Audio,
-        bandwidth: bandwidth(mapping, sequence, Kind::Audio, track),
+        bandwidth,
         size: (0, 0),
         video: None,
         aac: object_type(track),

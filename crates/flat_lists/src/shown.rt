@@ -181,17 +181,49 @@ fn shown_of(mapping: &Mapping, sequence: u32, asked: Asked, tracks: &CheckedTrac
     requires sequence { IsInRange 1 (length mapping.now.sequences) sequence }
     requires fourcc { IfSome tracks.now.video (λ v. v.fourcc ≡ entry_type v.entry.now) }
     ensures value { result ≡ shown_of mapping.now sequence asked (option_map good_of tracks.now.video) (option_map good_of tracks.now.audio) }
-    ensures video { result.video_bandwidth ≤ 2 ^ 100 }
-    ensures audio { result.audio_bandwidth ≤ 2 ^ 100 }
+    ensures video { result.video_bandwidth ≤ 2 ^ 102 }
+    ensures audio { result.audio_bandwidth ≤ 2 ^ 102 }
+{
+    let video_bandwidth = bandwidth_if(mapping, sequence, Kind::Video, tracks.video);
+    let audio_bandwidth = bandwidth_if(mapping, sequence, Kind::Audio, tracks.audio);
+    shown_as(
+        sequence,
+        asked,
+        video_bandwidth,
+        audio_bandwidth,
+        tracks.video,
+        tracks.audio,
+    )
+}
+
+/// What is said of a sequence by the asked tracks of its first piece, which have so many bits per second.
+pub fn shown_as(
+    sequence: u32,
+    asked: Asked,
+    video_bandwidth: u128,
+    audio_bandwidth: u128,
+    video: Option<TrackView<'_>>,
+    audio: Option<TrackView<'_>>,
+) -> Shown
+    requires { IfSome video (λ v. v.fourcc ≡ entry_type v.entry.now) }
+    ensures { result ≡ record {
+      sequence = sequence;
+      asked = asked;
+      video_bandwidth = video_bandwidth;
+      audio_bandwidth = audio_bandwidth;
+      size = option_map (λ t. (t.width, t.height)) (option_map good_of video.entry);
+      video = option_map video_codec_name (option_map good_of video.entry);
+      aac = option_map aac_of (option_map good_of audio.entry);
+    } }
 {
     Shown {
         sequence,
         asked,
-        video_bandwidth: bandwidth_if(mapping, sequence, Kind::Video, tracks.video),
-        audio_bandwidth: bandwidth_if(mapping, sequence, Kind::Audio, tracks.audio),
-        size: size_of(tracks.video),
-        video: name_of(tracks.video),
-        aac: type_of(tracks.audio),
+        video_bandwidth,
+        audio_bandwidth,
+        size: size_of(video),
+        video: name_of(video),
+        aac: type_of(audio),
     }
 }
 
@@ -199,7 +231,7 @@ fn shown_of(mapping: &Mapping, sequence: u32, asked: Asked, tracks: &CheckedTrac
 fn bandwidth_if(mapping: &Mapping, sequence: u32, kind: Kind, track: Option<TrackView<'_>>) -> u128
     requires { IsInRange 1 (length mapping.now.sequences) sequence }
     ensures value { result ≡ option_map_or (bandwidth_in mapping.now sequence kind) (option_map good_of track.entry) 0 }
-    ensures bound { result ≤ 2 ^ 100 }
+    ensures bound { result ≤ 2 ^ 102 }
 {
     match track {
         Some(track) => bandwidth(mapping, sequence, kind, &track),

@@ -17,7 +17,7 @@ use vod_types::{Name, Refusal};
 
 /// The master playlist of sequences, and where `iframes` are asked the lines of their I-frame playlists behind it. The only
 /// refusal is `NoMemory`.
-pub(crate) fn text_of(
+pub fn text_of(
     alloc: Global,
     mapping: &Mapping,
     iframes: bool,

@@ -1,3 +1,4 @@
+pub mod EntryLemmas
 pub mod FaultPlaces
 pub mod ShownLemmas
 pub mod IndexLemmas

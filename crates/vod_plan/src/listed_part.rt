@@ -33,18 +33,18 @@ pub(crate) struct CellStart {
 /// A part whose segments are listed: its number from 1, the number of its first cell, the kind of the track that leads, how
 /// the part is cut, and its pieces.
 #[derive(Clone, Copy)]
-pub(crate) struct ListedPart<'a> {
-    pub(crate) part: u32,
-    pub(crate) number: u32,
-    pub(crate) leads: Kind,
-    pub(crate) cells: PartCells<'a>,
-    pub(crate) pieces: &'a [PlanPiece],
+pub struct ListedPart<'a> {
+    pub part: u32,
+    pub number: u32,
+    pub leads: Kind,
+    pub cells: PartCells<'a>,
+    pub pieces: &'a [PlanPiece],
 }
 
 impl ListedPart<'_> {
     /// Puts the listed segments of the part behind others; without a lead row there are none, and no look is taken. After a
     /// refusal, `NoMemory`, some of them may stand there.
-    pub(crate) fn list<L: Ledger>(
+    pub fn list<L: Ledger>(
         &self,
         out: &mut Vec<Listed>,
         steps: &mut Steps<L>,

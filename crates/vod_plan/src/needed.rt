@@ -136,8 +136,8 @@ fn look<S: Store, L: Ledger>(
     }
 }
 
-// The metadata of the file of a piece, which stand in front of those that are kept then.
-fn loaded<S: Store>(
+/// The metadata of the file of a piece, which stand in front of those that are kept then.
+pub fn loaded<S: Store>(
     alloc: Global,
     metas: &mut Metas,
     store: &mut S,

@@ -16,21 +16,21 @@ use vod_types::{Kind, TrackName};
 /// Rows of a track by their numbers in it: from `from` on and before `to`. `delay` and `skip` are those of the track's edit in
 /// 1/90000 s, and 0 where edits aren't honoured.
 #[derive(Clone, Copy, Debug)]
-pub(crate) struct RowSpan {
-    pub(crate) track: TrackName,
-    pub(crate) delay: i64,
-    pub(crate) skip: i64,
-    pub(crate) from: u32,
-    pub(crate) to: u32,
+pub struct RowSpan {
+    pub track: TrackName,
+    pub delay: i64,
+    pub skip: i64,
+    pub from: u32,
+    pub to: u32,
 }
 
 /// A needed piece: the metadata of its file, where the file's time 0 stands in 1/90000 s, and the rows of each asked track.
 #[derive(Debug, Drop)]
-pub(crate) struct PlanPiece {
-    pub(crate) meta: Rc<Meta>,
-    pub(crate) base: i64,
-    pub(crate) video: Option<RowSpan>,
-    pub(crate) audio: Option<RowSpan>,
+pub struct PlanPiece {
+    pub meta: Rc<Meta>,
+    pub base: i64,
+    pub video: Option<RowSpan>,
+    pub audio: Option<RowSpan>,
 }
 
 impl PlanPiece {

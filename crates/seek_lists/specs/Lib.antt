@@ -1,0 +1,4 @@
+pub mod Inits
+pub mod Shown
+pub mod Turned
+pub mod Ways
