@@ -4,3 +4,4 @@ pub mod SettingsReadLemmas
 pub mod ServiceLemmas
 mod ReadsLemmas
 pub mod RehearsalLemmas
+pub mod BodyLemmas

@@ -108,7 +108,7 @@ pub are_some_reads : (has_leaf : Leaf → Bool) (files : Files) (q : Requested) 
 are_some_reads has_leaf files q with_body (Ok o) = record { taken = []; are = refl }
 are_some_reads has_leaf files q with_body (Err r) = refl
 
-gained_more : (outcome : Outcome) (first second : List Read) (log log_mid log_now : Option (List Read)) → log_mid ≡ told_with log first
+pub gained_more : (outcome : Outcome) (first second : List Read) (log log_mid log_now : Option (List Read)) → log_mid ≡ told_with log first
     → GainsReads second outcome log_mid log_now → GainsReads (first ++ second) outcome log log_now
 gained_more done first second log log_mid log_now e g = told_with-more log log_mid log_now first second e g
 gained_more (refused r) first second log log_mid log_now e g = told_with-more log log_mid log_now first second e g
@@ -164,13 +164,6 @@ module _ (due_of : Result Setup Refusal → Due) (has_leaf : Leaf → Bool) (fil
 pub flat_refused : (due : Answer) (r : Refusal) → flat_seen due ≡ Err r → due ≡ Err r
 flat_refused (Ok body) r e = absurd cc
 flat_refused (Err other) r e = cc
-
-pub written_of : (o : Setup) (given path : List ℕ) (outcome : Outcome) (r : Refusal) (out : Option (List ℕ)) (log log_now : Option (List Read))
-    → given ≡ path → outcome ≡ refused_outcome r → IsFlatAnswer o given (Err r) log log_now → IsAnswerWritten o path outcome out out log log_now
-written_of o given path outcome r out log log_now same e a =
-    let b = subst (λ p. IsFlatAnswer o p (Err r) log log_now) same a in
-    written_refused b.reads r outcome out log log_now e
-    (λ known_memory known_store. ap due_answer (flat_refused (answer o path None) r (b.answered known_memory known_store))) b.reads_are b.logged
 
 module _ (files : Files) (q : Requested) where
   pub got_of : (outcome : Outcome) (r : Refusal) (out : Option (List ℕ)) (log log_now : Option (List Read))

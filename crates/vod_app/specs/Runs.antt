@@ -7,11 +7,12 @@ use Rattle.vod_types.specs.Settled.{Settled}
 use Rattle.list_model.specs.Command.{Requested, Outcome, done, usage, refused, store_failed, sink_failed, no_memory, door_failed, outcome_status}
 use Rattle.vod_source.specs.Stored.{Files, Read}
 use Rattle.origin_model.specs.Answers.{answer, every_leaf, is_index, path_rows}
-use Rattle.origin_model.specs.Outcomes.{AreRunReads, Due, GainsDue, GainsLine, GainsReads, due_answer, due_rows, get_due, pack_due, plan_due, settings_named, settings_reads}
+use Rattle.origin_model.specs.Outcomes.{AreRunReads, Due, GainsDue, GainsLine, GainsReads, due_answer, due_rows, end_refusal, get_due, pack_due, plan_due, settings_named, settings_reads}
 use Rattle.origin_model.specs.Packaging.{packed_path}
 use Rattle.origin_model.specs.Reads.{AreReads}
 use Rattle.origin_model.specs.Requests.{Setup}
 use Rattle.vod_source.specs.Calls.{AnswersUnlessFailed, LogsReads}
+use Rattle.vod_http.specs.Answered.{Rest}
 use Rattle.mp4_flat.specs.declared.entries.PackEnd.{PackEnd}
 use Rattle.mp4_flat.specs.declared.entries.PackEnd.TheVariants as packs
 use Rattle.vod_app.specs.declared.ends.End.{End}
@@ -37,6 +38,10 @@ refused_outcome r = refused r
 pub record AreSettingsRead (files : Files) (name : List ℕ) (result : Result Settled Refusal) (log log_now : Option (List Read)) : Type 0 where
   pub answered : AnswersUnlessFailed (λ s. s) result (settings_named files name)
   pub logged : LogsReads result (settings_reads files name) log log_now
+
+-- what is due of a body of which this is left
+abbrev pub due_rest : Rest → Due
+due_rest rest = (rest.0, end_refusal rest.1)
 
 -- the refusal that stands for a cut
 abbrev pub cut_refusal : Option (ℕ × ℕ) → Option Refusal

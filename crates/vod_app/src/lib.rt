@@ -2,7 +2,7 @@
 #![tactic(auto)]
 
 ghost use Rattle.std.specs.Prelude.{◌≡◌, ◌↔◌, ◌≤◌, ◌<◌, ℕ, List, IfSome, None, Some, false, true, map, string_bytes};
-ghost use Rattle.list_model.specs.Command.{Requested, command_of, door_failed, get as get_of, pack as pack_of, plan as plan_of, reads as reads_of, rehearse as rehearse_of, serve as serve_of, sink_failed, store_failed, turns as turns_of, usage};
+ghost use Rattle.list_model.specs.Command.{Requested, command_of, door_failed, get as get_of, no_memory, pack as pack_of, plan as plan_of, reads as reads_of, rehearse as rehearse_of, serve as serve_of, sink_failed, store_failed, turns as turns_of, usage};
 ghost use Rattle.vod_source.specs.Causes.{Rose};
 ghost use Rattle.origin_model.specs.Outcomes.{GetOutcome, settings_named, settings_reads};
 ghost use Rattle.vod_turns.specs.Outcomes.{AreTurnedBy, IsServedBy};
@@ -13,6 +13,7 @@ ghost use Rattle.vod_app.specs.ReadsRuns.{IsReads, ReadsOutcome};
 ghost use Rattle.vod_app.specs.Rehearsals.{IsRehearsed, RehearsalOutcome};
 ghost use Rattle.vod_app.specs.Services.{DoesBy, LogsSettings, ServiceOutcome, answers_with};
 
+mod answers;
 mod ends;
 mod lines;
 mod packs;
@@ -96,6 +97,10 @@ pub fn run<S: Store, D: Door, K: Sink, E: Sink>(
         GetOutcome files q result.status (K.written out.old) (K.written out.new) (S.log store) (S.log result.store)
         (E.written err.old) (E.written err.new) (E.faults err.old) (E.faults err.new)) }
 
+    // `get` takes all memory before it writes.
+    ensures get_memory { result.status ≡ 5 → (q : Requested) → command_of (map string_bytes words.now) ≡ Some (get_of q) →
+        out.new ≡ out.old }
+
     // The same of `plan`.
     ensures plan { IfSome (S.content store) (λ files. (q : Requested) → command_of (map string_bytes words.now) ≡ Some (plan_of q) →
         PlanOutcome files q result.status (K.written out.old) (K.written out.new) (S.log store) (S.log result.store)
@@ -167,6 +172,8 @@ fn run_command<S: Store, D: Door, K: Sink>(
     ensures served_unwritten { opens_door (command_of (map string_bytes words.now)) ≡ true → out.new ≡ out.old }
     ensures got { IfSome (S.content store) (λ files. (q : Requested) → command_of (map string_bytes words.now) ≡ Some (get_of q) →
         IsGet files q (outcome_of result.end) (K.written out.old) (K.written out.new) (S.log store) (S.log result.store)) }
+    ensures got_memory { outcome_of result.end ≡ no_memory → (q : Requested) → command_of (map string_bytes words.now) ≡ Some (get_of q) →
+        out.new ≡ out.old }
     ensures planned { IfSome (S.content store) (λ files. (q : Requested) → command_of (map string_bytes words.now) ≡ Some (plan_of q) →
         IsPlan files q (outcome_of result.end) (K.written out.old) (K.written out.new) (S.log store) (S.log result.store)) }
     ensures packed { IfSome (S.content store) (λ files. (q : Requested) → command_of (map string_bytes words.now) ≡ Some (pack_of q) →
@@ -191,10 +198,7 @@ fn run_command<S: Store, D: Door, K: Sink>(
     ensures door_failed { outcome_of result.end ≡ door_failed → Rose (D.faults door.old) (D.faults door.new) }
 {
     match Command::read(words) {
-        Some(Command::Get(request)) => {
-            let end = get(alloc, request, &mut store, out);
-            Done { end, store }
-        }
+        Some(Command::Get(request)) => get(alloc, request, store, out),
         Some(Command::Plan(request)) => {
             let end = plan(alloc, request, &mut store, out);
             Done { end, store }

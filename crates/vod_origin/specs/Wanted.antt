@@ -1,5 +1,5 @@
 -- What goes the fast way, and what is due of it; this project's own.
-use Rattle.std.specs.Prelude.{ℕ, Result, Ok}
+use Rattle.std.specs.Prelude.{ℕ, Bool, true, false, List, Result, Ok}
 use Rattle.vod_types.specs.declared.paths.Ask.{Ask}
 use Rattle.vod_types.specs.declared.paths.Leaf.{Leaf}
 use Rattle.vod_types.specs.declared.paths.Leaf.TheVariants as leaves
@@ -14,9 +14,10 @@ use Rattle.list_model.specs.Reply.{Answer, leaf_body}
 use Rattle.vod_source.specs.Stored.{Files}
 use Rattle.origin_model.specs.Bodies.{segment_body}
 use Rattle.origin_model.specs.Iframes.{planned_iframe}
-use Rattle.origin_model.specs.Plans.{Cutting, planned_segment}
+use Rattle.origin_model.specs.Plans.{Cutting, planned_segment, segment_looks}
 use Rattle.origin_model.specs.Requests.{Setup, Asking, asking_of, cutting, timeline_asked}
 use Rattle.origin_model.specs.Samples.{SegmentPlan}
+use Rattle.vod_plan.specs.Looks.{names_of}
 use Rattle.vod_plan.specs.Planned.{cutting_of}
 use Rattle.vod_origin.specs.declared.plans.SequenceCut.{SequenceCut}
 use Rattle.vod_origin.specs.declared.wanted.Wanted.{Wanted}
@@ -26,6 +27,12 @@ use Rattle.vod_origin.specs.declared.wanted.Wanted.TheVariants.{Segment, Iframe}
 abbrev pub leaf_of : ℕ → Wanted → Leaf
 leaf_of sequence (Segment number asked form) = leaves.Segment number sequence asked form
 leaf_of sequence (Iframe number index video) = leaves.Iframe number index sequence video
+
+-- whether a leaf is one of them
+abbrev pub is_wanted : Leaf → Bool
+is_wanted (leaves.Segment number sequence asked form) = true
+is_wanted (leaves.Iframe number index sequence video) = true
+is_wanted _ = false
 
 -- its segment's number, its asked tracks and its form
 abbrev pub number_of : Wanted → ℕ
@@ -46,6 +53,10 @@ form_of (Iframe number index video) = Ts
 abbrev pub plan_due : Wanted → Cutting → Timeline → Result SegmentPlan Refusal
 plan_due (Segment number asked form) c t = planned_segment c asked t number form
 plan_due (Iframe number index video) c t = planned_iframe c video t number index
+
+-- the files whose movies are looked at for it
+abbrev pub plan_names : Wanted → Cutting → Timeline → List (List ℕ)
+plan_names w c t = names_of (segment_looks c (asked_of w) t (number_of w))
 
 -- the timeline of a sequence, and how its parts are cut
 abbrev pub cut_of : Setup → Asking → ℕ → Result (Timeline × Cutting) Refusal

@@ -1,12 +1,15 @@
 //! Clips, whole and in part.
 
-ghost use Rattle.std.specs.Prelude.{◌≡◌, ◌≤◌, ◌<◌, ◌+◌, ◌-◌, IfSome, None, Some, length};
+ghost use Rattle.std.specs.Prelude.{◌≡◌, ◌≤◌, ◌<◌, ◌+◌, ◌-◌, Bool, IfSome, None, Some, length};
 ghost use Rattle.vod_types.specs.declared.paths.Leaf.TheVariants as leaves;
 ghost use Rattle.list_model.specs.Ranges.{IsByteRange};
 ghost use Rattle.vod_http.specs.Answered.{IsReply};
+ghost use Rattle.origin_model.specs.Reads.{Cache};
+ghost use Rattle.flat_lists.specs.Asked.{setup_of};
 ghost use Rattle.mp4_flat.specs.Asks.{IsPathAsk};
 ghost use Rattle.vod_origin.specs.Begun.{asked_part, Begins, IsMadeReply};
 ghost use Rattle.vod_origin.specs.Ranges.{clip_of};
+ghost use Rattle.vod_origin.specs.Reads.{ReadsForAsk};
 
 use crate::cursor::{Cursor, MadeBody};
 use crate::media::media_of;
@@ -32,6 +35,8 @@ pub(crate) fn clip_reply<S: Store>(
     requires range { IfSome range IsByteRange }
     ensures replies { IsReply range (asked_part settings.now root.now range ask (S.content store.old)) (S.faults store.old) (S.faults store.new) result }
     ensures begins { Begins (asked_part settings.now root.now range ask (S.content store.old)) (S.content store.old) result }
+    ensures reads { (head_only : Bool) (cache : Cache) → IfSome (S.content store.old) (λ files.
+        ReadsForAsk (setup_of settings.now root.now files) head_only range ask result cache cache (S.log store.old) (S.log store.new)) }
     ensures content { S.content store.new ≡ S.content store.old }
     ensures later { S.faults store.old ≤ S.faults store.new }
 {

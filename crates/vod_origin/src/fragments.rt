@@ -1,12 +1,13 @@
 //! Fragments that are written sample by sample.
 
-ghost use Rattle.std.specs.Prelude.{◌≡◌, ◌≤◌, ◌+◌, IsTrue};
+ghost use Rattle.std.specs.Prelude.{◌≡◌, ◌≤◌, ◌+◌, IfSome, IsTrue};
 ghost use Rattle.media_model.specs.Fragment.{sizes};
 ghost use Rattle.vod_source.specs.Causes.{Rose};
 ghost use Rattle.vod_plan.specs.Planned.{plan_rows};
 ghost use Rattle.fmp4_writer.specs.Progress.{is_under_way};
 ghost use Rattle.vod_origin.specs.Begun.{IsFragmentReply};
 ghost use Rattle.vod_origin.specs.Bodies.{IsFragmentOf};
+ghost use Rattle.vod_origin.specs.Reads.{LogsStep, reads_left};
 ghost use Rattle.vod_origin.specs.Steps.{Steps};
 
 use crate::cursor::{Cursor, FragmentBody};
@@ -40,6 +41,8 @@ impl FragmentBody {
         requires under_way { IsTrue (is_under_way self.old.writing) }
         requires of { IsFragmentOf (S.content store.old) self.old }
         ensures steps { Steps (S.content store.old) (Cursor.Fragment self.old) (Cursor.Fragment self.new) (K.written sink.old) (K.written sink.new) result }
+        ensures reads { IfSome (S.content store.old) (λ files. LogsStep result (reads_left files (Cursor.Fragment self.old)) (reads_left files (Cursor.Fragment self.new))
+            (S.log store.old) (S.log store.new)) }
         ensures content { S.content store.new ≡ S.content store.old }
         ensures kept { K.kept sink.new ≡ K.kept sink.old }
         ensures later { S.faults store.old ≤ S.faults store.new }

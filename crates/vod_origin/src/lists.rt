@@ -1,20 +1,26 @@
 //! Lists of which the rows are found by seeks.
 
-ghost use Rattle.std.specs.Prelude.{◌≡◌, ◌≤◌, ◌<◌, map, All, IfErr, IfOk, IfSome, IsErrOf};
+ghost use Rattle.std.specs.Prelude.{◌≡◌, ◌≤◌, ◌<◌, Bool, Option, map, All, IfErr, IfOk, IfSome, IsErrOf};
+ghost use Rattle.vod_types.specs.declared.paths.ByteRange.{ByteRange};
 ghost use Rattle.vod_types.specs.declared.paths.Leaf.TheVariants.{Iframes, Index};
 ghost use Rattle.vod_types.specs.declared.refusal.Refusal.TheVariants.{StoreFailed};
+ghost use Rattle.vod_types.specs.Tracks.{video_alone};
 ghost use Rattle.segment_model.specs.Listing.{listed_view};
 ghost use Rattle.vod_source.specs.Calls.{AnswersUnlessFailed};
 ghost use Rattle.vod_source.specs.Causes.{Rose};
 ghost use Rattle.origin_model.specs.Iframes.{planned_iframes};
-ghost use Rattle.origin_model.specs.Plans.{planned_rows};
+ghost use Rattle.origin_model.specs.Plans.{planned_rows, rows_looks};
 ghost use Rattle.answer_laws.specs.Refusals.{IsPathRefusal};
+ghost use Rattle.flat_lists.specs.Asked.{setup_of};
 ghost use Rattle.flat_lists.specs.Listings.{HasPart};
 ghost use Rattle.mp4_flat.specs.Asks.{IsPathAsk};
-ghost use Rattle.vod_meta.specs.Held.{AreTrue};
+ghost use Rattle.vod_meta.specs.Held.{names_held, AreTrue};
+ghost use Rattle.vod_plan.specs.Looks.{names_of};
 ghost use Rattle.vod_plan.specs.Planned.{cutting_of};
+ghost use Rattle.vod_plan.specs.Turned.{AreTurns};
 ghost use Rattle.vod_origin.specs.Begun.{asked_answer, Begins, Replies};
 ghost use Rattle.vod_origin.specs.Held.{AreHeld};
+ghost use Rattle.vod_origin.specs.Reads.{cache_of, ReadsForAsk};
 
 use crate::bodies::begun;
 use crate::cursor::Cursor;
@@ -45,6 +51,8 @@ pub(crate) fn playlist_reply<S: Store>(
     requires held { AreHeld (S.content store.old) metas.old }
     ensures replies { Replies (asked_answer settings.now root.now ask (S.content store.old)) (S.faults store.old) (S.faults store.new) result }
     ensures begins { Begins (asked_answer settings.now root.now ask (S.content store.old)) (S.content store.old) result }
+    ensures reads { (head_only : Bool) (range : Option ByteRange) → IfSome (S.content store.old) (λ files.
+        ReadsForAsk (setup_of settings.now root.now files) head_only range ask result (cache_of metas.old) (cache_of metas.new) (S.log store.old) (S.log store.new)) }
     ensures held { AreHeld (S.content store.new) metas.new }
     ensures content { S.content store.new ≡ S.content store.old }
     ensures later { S.faults store.old ≤ S.faults store.new }
@@ -80,6 +88,8 @@ pub(crate) fn iframes_reply<S: Store>(
     requires held { AreHeld (S.content store.old) metas.old }
     ensures replies { Replies (asked_answer settings.now root.now ask (S.content store.old)) (S.faults store.old) (S.faults store.new) result }
     ensures begins { Begins (asked_answer settings.now root.now ask (S.content store.old)) (S.content store.old) result }
+    ensures reads { (head_only : Bool) (range : Option ByteRange) → IfSome (S.content store.old) (λ files.
+        ReadsForAsk (setup_of settings.now root.now files) head_only range ask result (cache_of metas.old) (cache_of metas.new) (S.log store.old) (S.log store.new)) }
     ensures held { AreHeld (S.content store.new) metas.new }
     ensures content { S.content store.new ≡ S.content store.old }
     ensures later { S.faults store.old ≤ S.faults store.new }
@@ -111,6 +121,9 @@ fn listed<S: Store>(
     ensures told { IfSome (S.content store.old) (λ files.
         AnswersUnlessFailed (λ rows. map listed_view rows.items) result (planned_rows (cutting_of files cut.now.grid cut.now.align cut.now.edits) asked cut.now.timeline)) }
     ensures parts { IfOk result (λ rows. All HasPart rows.items) }
+    ensures turned { IfSome (S.content store.old) (λ files.
+        AreTurns files (names_of (rows_looks (cutting_of files cut.now.grid cut.now.align cut.now.edits) asked cut.now.timeline)) result
+        (cache_of metas.old) (cache_of metas.new) (S.log store.old) (S.log store.new)) }
     ensures held { AreHeld (S.content store.new) metas.new }
     ensures refused { IfErr result IsPathRefusal }
     ensures content { S.content store.new ≡ S.content store.old }
@@ -142,6 +155,9 @@ fn listed_over<S: Store, L: Ledger>(
     ensures told { IfSome (S.content store.old) (λ files.
         AnswersUnlessFailed (λ rows. map listed_view rows.items) result (planned_rows (cutting_of files cut.now.grid cut.now.align cut.now.edits) asked cut.now.timeline)) }
     ensures parts { IfOk result (λ rows. All HasPart rows.items) }
+    ensures turned { IfSome (S.content store.old) (λ files.
+        AreTurns files (names_of (rows_looks (cutting_of files cut.now.grid cut.now.align cut.now.edits) asked cut.now.timeline)) result
+        (names_held metas.old) (names_held metas.new) (S.log store.old) (S.log store.new)) }
     ensures held { IfSome (S.content store.old) (λ files. AreTrue files metas.new) }
     ensures refused { IfErr result IsPathRefusal }
     ensures content { S.content store.new ≡ S.content store.old }
@@ -173,6 +189,9 @@ fn marked<S: Store>(
     requires held { AreHeld (S.content store.old) metas.old }
     ensures told { IfSome (S.content store.old) (λ files.
         AnswersUnlessFailed (λ rows. rows.items) result (planned_iframes (cutting_of files cut.now.grid cut.now.align cut.now.edits) video cut.now.timeline)) }
+    ensures turned { IfSome (S.content store.old) (λ files.
+        AreTurns files (names_of (rows_looks (cutting_of files cut.now.grid cut.now.align cut.now.edits) (video_alone video) cut.now.timeline)) result
+        (cache_of metas.old) (cache_of metas.new) (S.log store.old) (S.log store.new)) }
     ensures held { AreHeld (S.content store.new) metas.new }
     ensures refused { IfErr result IsPathRefusal }
     ensures content { S.content store.new ≡ S.content store.old }
@@ -203,6 +222,9 @@ fn marked_over<S: Store, L: Ledger>(
     requires held { IfSome (S.content store.old) (λ files. AreTrue files metas.old) }
     ensures told { IfSome (S.content store.old) (λ files.
         AnswersUnlessFailed (λ rows. rows.items) result (planned_iframes (cutting_of files cut.now.grid cut.now.align cut.now.edits) video cut.now.timeline)) }
+    ensures turned { IfSome (S.content store.old) (λ files.
+        AreTurns files (names_of (rows_looks (cutting_of files cut.now.grid cut.now.align cut.now.edits) (video_alone video) cut.now.timeline)) result
+        (names_held metas.old) (names_held metas.new) (S.log store.old) (S.log store.new)) }
     ensures held { IfSome (S.content store.old) (λ files. AreTrue files metas.new) }
     ensures refused { IfErr result IsPathRefusal }
     ensures content { S.content store.new ≡ S.content store.old }

@@ -1,20 +1,24 @@
 //! Plans over the metadata that are kept.
 
-ghost use Rattle.std.specs.Prelude.{◌≡◌, ◌≤◌, ◌+◌, ◌<◌, length, IfErr, IfOk, IfSome, IsErrOf, Option};
+ghost use Rattle.std.specs.Prelude.{◌≡◌, ◌≤◌, ◌+◌, ◌<◌, [], length, IfErr, IfOk, IfSome, IsErrOf, Option};
 ghost use Rattle.std.specs.Int.{IsInRange};
 ghost use Rattle.vod_types.specs.declared.refusal.Refusal.TheVariants.{StoreFailed};
 ghost use Rattle.media_model.specs.Fragment.{sizes};
-ghost use Rattle.vod_source.specs.Calls.{AnswersUnlessFailed};
+ghost use Rattle.vod_source.specs.Calls.{AnswersUnlessFailed, LogsReads};
 ghost use Rattle.vod_source.specs.Causes.{Rose};
 ghost use Rattle.vod_source.specs.Stored.{Files};
+ghost use Rattle.list_model.specs.Path.{is_local};
+ghost use Rattle.origin_model.specs.Reads.{mapping_reads_by};
 ghost use Rattle.origin_model.specs.Requests.{target_names};
 ghost use Rattle.answer_laws.specs.Refusals.{IsPathRefusal};
 ghost use Rattle.flat_lists.specs.Asked.{setup_of};
-ghost use Rattle.vod_meta.specs.Held.{AreTrue};
+ghost use Rattle.vod_meta.specs.Held.{names_held, AreTrue};
 ghost use Rattle.vod_plan.specs.Planned.{cutting_of, plan_rows, plan_view};
+ghost use Rattle.vod_plan.specs.Turned.{AreTurns};
 ghost use Rattle.vod_plan.specs.Writable.{IsWritableBy};
 ghost use Rattle.vod_origin.specs.Held.{AreHeld};
-ghost use Rattle.vod_origin.specs.Wanted.{asked_of, cut_due, cut_view, form_of, plan_due};
+ghost use Rattle.vod_origin.specs.Reads.{cache_of};
+ghost use Rattle.vod_origin.specs.Wanted.{asked_of, cut_due, cut_view, form_of, plan_due, plan_names};
 
 use crate::wanted::Wanted;
 use flat_lists::asking_of;
@@ -49,6 +53,8 @@ pub(crate) fn sequence_cut<S: Store>(
     requires names { IsInRange 1 32 (length (target_names ask.target)) }
     ensures told { IfSome (S.content store.old) (λ files.
         AnswersUnlessFailed (cut_view files) result (cut_due (setup_of settings.now root.now files) ask sequence)) }
+    ensures logged { IfSome (S.content store.old) (λ files.
+        LogsReads result (mapping_reads_by (setup_of settings.now root.now files) (is_local ask.place) ask.target) (S.log store.old) (S.log store.new)) }
     ensures refused { IfErr result IsPathRefusal }
     ensures content { S.content store.new ≡ S.content store.old }
     ensures later { S.faults store.old ≤ S.faults store.new }
@@ -85,6 +91,9 @@ pub(crate) fn plan<S: Store>(
     requires held { AreHeld (S.content store.old) metas.old }
     ensures told { IfSome (S.content store.old) (λ files.
         AnswersUnlessFailed plan_view result (plan_due wanted (cutting_of files cut.now.grid cut.now.align cut.now.edits) cut.now.timeline)) }
+    ensures turned { IfSome (S.content store.old) (λ files.
+        AreTurns files (plan_names wanted (cutting_of files cut.now.grid cut.now.align cut.now.edits) cut.now.timeline) result
+        (cache_of metas.old) (cache_of metas.new) (S.log store.old) (S.log store.new)) }
     ensures held { AreHeld (S.content store.new) metas.new }
     ensures writable { IfOk result (λ plan. IsWritableBy (form_of wanted) (asked_of wanted) (S.content store.new) plan) }
     ensures bytes { IfOk result (λ plan. plan.bytes ≡ sizes (plan_rows plan).video + sizes (plan_rows plan).audio) }
@@ -106,6 +115,8 @@ pub(crate) fn plan<S: Store>(
 /// The metadata that are kept, and none where nothing was kept yet. The only refusal is `NoMemory`.
 pub(crate) fn kept(alloc: Global, metas: Option<Metas>) -> Result<Metas, Refusal>
     ensures held { (content : Option Files) → AreHeld content metas → IfOk result (λ held. IfSome content (λ files. AreTrue files held)) }
+    ensures names { IfOk result (λ held. names_held held ≡ cache_of metas) }
+    ensures none { IfErr result (λ refusal. cache_of metas ≡ []) }
     ensures refused { IfErr result IsPathRefusal }
     ensures only { IfErr result (λ refusal. refusal ≡ Refusal.NoMemory) }
 {
@@ -130,6 +141,9 @@ fn plan_over<S: Store, L: Ledger>(
     requires held { IfSome (S.content store.old) (λ files. AreTrue files metas.old) }
     ensures told { IfSome (S.content store.old) (λ files.
         AnswersUnlessFailed plan_view result (plan_due wanted (cutting_of files cut.now.grid cut.now.align cut.now.edits) cut.now.timeline)) }
+    ensures turned { IfSome (S.content store.old) (λ files.
+        AreTurns files (plan_names wanted (cutting_of files cut.now.grid cut.now.align cut.now.edits) cut.now.timeline) result
+        (names_held metas.old) (names_held metas.new) (S.log store.old) (S.log store.new)) }
     ensures held { IfSome (S.content store.old) (λ files. AreTrue files metas.new) }
     ensures writable { IfOk result (λ plan. IsWritableBy (form_of wanted) (asked_of wanted) (S.content store.new) plan) }
     ensures bytes { IfOk result (λ plan. plan.bytes ≡ sizes (plan_rows plan).video + sizes (plan_rows plan).audio) }

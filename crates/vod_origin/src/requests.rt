@@ -1,9 +1,13 @@
 //! What a request is replied.
 
-ghost use Rattle.std.specs.Prelude.{◌≡◌, ◌≤◌, false};
+ghost use Rattle.std.specs.Prelude.{◌≡◌, ◌≤◌, Bool, false, IfSome, None, Option};
+ghost use Rattle.vod_types.specs.declared.paths.ByteRange.{ByteRange};
+ghost use Rattle.flat_lists.specs.Asked.{setup_of};
 ghost use Rattle.vod_origin.specs.Begun.{asked_answer, Begins, IsPlanReply, Replies};
 ghost use Rattle.vod_origin.specs.Held.{AreHeld};
-ghost use Rattle.vod_origin.specs.Wanted.{asked_of, form_of, leaf_of, number_of};
+ghost use Rattle.vod_origin.specs.Ranges.{clip_of};
+ghost use Rattle.vod_origin.specs.Reads.{cache_of, ReadsForAsk};
+ghost use Rattle.vod_origin.specs.Wanted.{asked_of, form_of, is_wanted, leaf_of, number_of};
 ghost use Rattle.mp4_flat.specs.Asks.{IsPathAsk};
 
 use crate::bodies::plain_reply;
@@ -35,6 +39,8 @@ pub(crate) fn ask_reply<S: Store>(
     requires held { AreHeld (S.content store.old) metas.old }
     ensures replies { Replies (asked_answer settings.now root.now ask (S.content store.old)) (S.faults store.old) (S.faults store.new) result }
     ensures begins { head_only ≡ false → Begins (asked_answer settings.now root.now ask (S.content store.old)) (S.content store.old) result }
+    ensures reads { (range : Option ByteRange) → clip_of ask.leaf ≡ None → IfSome (S.content store.old) (λ files.
+        ReadsForAsk (setup_of settings.now root.now files) head_only range ask result (cache_of metas.old) (cache_of metas.new) (S.log store.old) (S.log store.new)) }
     ensures held { AreHeld (S.content store.new) metas.new }
     ensures content { S.content store.new ≡ S.content store.old }
     ensures later { S.faults store.old ≤ S.faults store.new }
@@ -57,9 +63,12 @@ fn made_reply<S: Store>(
     ask: Ask,
 ) -> Reply<Cursor>
     requires ask { IsPathAsk ask }
+    requires unwanted { is_wanted ask.leaf ≡ false }
     requires held { AreHeld (S.content store.old) metas.old }
     ensures replies { Replies (asked_answer settings.now root.now ask (S.content store.old)) (S.faults store.old) (S.faults store.new) result }
     ensures begins { Begins (asked_answer settings.now root.now ask (S.content store.old)) (S.content store.old) result }
+    ensures reads { (head_only : Bool) (range : Option ByteRange) → clip_of ask.leaf ≡ None → IfSome (S.content store.old) (λ files.
+        ReadsForAsk (setup_of settings.now root.now files) head_only range ask result (cache_of metas.old) (cache_of metas.new) (S.log store.old) (S.log store.new)) }
     ensures held { AreHeld (S.content store.new) metas.new }
     ensures content { S.content store.new ≡ S.content store.old }
     ensures later { S.faults store.old ≤ S.faults store.new }
@@ -92,6 +101,8 @@ fn planned_reply<S: Store>(
     requires held { AreHeld (S.content store.old) metas.old }
     ensures replies { Replies (asked_answer settings.now root.now ask (S.content store.old)) (S.faults store.old) (S.faults store.new) result }
     ensures begins { head_only ≡ false → Begins (asked_answer settings.now root.now ask (S.content store.old)) (S.content store.old) result }
+    ensures reads { (range : Option ByteRange) → IfSome (S.content store.old) (λ files.
+        ReadsForAsk (setup_of settings.now root.now files) head_only range ask result (cache_of metas.old) (cache_of metas.new) (S.log store.old) (S.log store.new)) }
     ensures held { AreHeld (S.content store.new) metas.new }
     ensures content { S.content store.new ≡ S.content store.old }
     ensures later { S.faults store.old ≤ S.faults store.new }

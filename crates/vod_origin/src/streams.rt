@@ -1,11 +1,12 @@
 //! Transport streams that are written sample by sample.
 
-ghost use Rattle.std.specs.Prelude.{◌≡◌, ◌≤◌, ◌+◌, ◌^◌, ◌<◌, length, IsTrue};
+ghost use Rattle.std.specs.Prelude.{◌≡◌, ◌≤◌, ◌+◌, ◌^◌, ◌<◌, length, IfSome, IsTrue};
 ghost use Rattle.vod_source.specs.Causes.{Rose};
 ghost use Rattle.vod_plan.specs.Planned.{plan_rows};
 ghost use Rattle.ts_writer.specs.Conditions.{is_under_way};
 ghost use Rattle.vod_origin.specs.Begun.{IsStreamReply};
 ghost use Rattle.vod_origin.specs.Bodies.{IsStreamOf};
+ghost use Rattle.vod_origin.specs.Reads.{LogsStep, reads_left};
 ghost use Rattle.vod_origin.specs.Steps.{Steps};
 
 use crate::cursor::{Cursor, MadeBody, StreamBody};
@@ -78,6 +79,8 @@ impl StreamBody {
         requires under_way { IsTrue (is_under_way self.old.writing.progress) }
         requires of { IsStreamOf (S.content store.old) self.old }
         ensures steps { Steps (S.content store.old) (Cursor.Stream self.old) (Cursor.Stream self.new) (K.written sink.old) (K.written sink.new) result }
+        ensures reads { IfSome (S.content store.old) (λ files. LogsStep result (reads_left files (Cursor.Stream self.old)) (reads_left files (Cursor.Stream self.new))
+            (S.log store.old) (S.log store.new)) }
         ensures content { S.content store.new ≡ S.content store.old }
         ensures kept { K.kept sink.new ≡ K.kept sink.old }
         ensures later { S.faults store.old ≤ S.faults store.new }

@@ -1,7 +1,7 @@
 //! What goes the fast way.
 
-ghost use Rattle.std.specs.Prelude.{◌≡◌, IfSome};
-ghost use Rattle.vod_origin.specs.Wanted.{asked_of, form_of, leaf_of, number_of};
+ghost use Rattle.std.specs.Prelude.{◌≡◌, false, IfSome, None};
+ghost use Rattle.vod_origin.specs.Wanted.{asked_of, form_of, is_wanted, leaf_of, number_of};
 
 use vod_types::{Asked, Form, Leaf};
 
@@ -57,7 +57,8 @@ impl Wanted {
 
 /// What a leaf wants of a sequence that goes the fast way, if it does, with the sequence's number from 1.
 pub(crate) fn wanted_of(leaf: Leaf) -> Option<(u32, Wanted)>
-    ensures { IfSome result (λ w. leaf ≡ leaf_of w.0 w.1) }
+    ensures wanted { IfSome result (λ w. leaf ≡ leaf_of w.0 w.1) }
+    ensures none { result ≡ None → is_wanted leaf ≡ false }
 {
     match leaf {
         Leaf::Segment {
@@ -86,6 +87,11 @@ pub(crate) fn wanted_of(leaf: Leaf) -> Option<(u32, Wanted)>
                 video,
             },
         )),
-        _ => None,
+        Leaf::Master
+        | Leaf::Mpd
+        | Leaf::Index { .. }
+        | Leaf::Init { .. }
+        | Leaf::Iframes { .. }
+        | Leaf::Clip { .. } => None,
     }
 }

@@ -8,6 +8,10 @@ use Rattle.flat_lists.specs.Asked.{setup_of}
 use Rattle.vod_origin.proofs.ListLemmas.{list_untimed, listed_with, unlisted}
 use Rattle.vod_origin.proofs.MadeLemmas.{answered_begins, answered_replied}
 use Rattle.vod_origin.proofs.ReplyLemmas.{refused}
+use Rattle.vod_source.proofs.CallLemmas.{told_with_both}
+use Rattle.vod_origin.specs.Wanted.{cut_view}
+use Rattle.vod_origin.proofs.SoughtReads.{told_pair}
+use Rattle.vod_origin.proofs.ListReads.{index_looked, reads_of_list, reads_of_refused, reads_of_unlisted, reads_of_untimed}
 use Rattle.vod_origin.proofs.lists.playlist_reply.Goals as goal
 
 pub returns-in-Err-clause-replies : goal.returns-in-Err-clause-replies
@@ -42,3 +46,31 @@ returns-in-Ok-playlist_of-clause-begins g c =
     ∙ ap (λ (ls : List Listed). media_playlist (map (λ l. l.row) ls) c.args.sequence c.args.asked c.settings.inside.hls_fmp4) c.deref.ensures.value
     ∙ ap (λ (s : Settled). media_playlist (map (λ l. l.row) c.in-Ok-listed.listed.items) c.args.sequence c.args.asked s.hls_fmp4) c.settings.view_is)))
     c.begun.result c.begun.ensures
+
+pub returns-in-Err-clause-reads : goal.returns-in-Err-clause-reads
+returns-in-Err-clause-reads g c = λ head_only range.
+    told_with_both (g.S.Store.content c.args.store.now) _ _ _ c.in-Err.ensures.told c.in-Err.ensures.logged
+    (λ files due logged. reads_of_untimed (setup_of c.args.settings.now c.args.root.now files) head_only range c.args.ask c.args.sequence c.args.asked (index_looked (setup_of c.args.settings.now c.args.root.now files) c.args.ask.leaf c.args.sequence c.args.asked c.requires.leaf) _ _ _ c.in-Err.refusal due logged)
+
+pub returns-in-Err-listed-clause-reads : goal.returns-in-Err-listed-clause-reads
+returns-in-Err-listed-clause-reads g c = λ head_only range.
+    told_with_other (g.S.Store.content c.args.store.now) _ _ _ _ c.in-Ok.ensures.content
+    (told_pair (g.S.Store.content c.args.store.now) _ _ c.in-Ok.ensures.told c.in-Ok.ensures.logged) c.in-Err-listed.ensures.turned
+    (λ files cut turned.
+    reads_of_refused (setup_of c.args.settings.now c.args.root.now files) head_only range c.args.ask c.args.sequence c.args.asked (index_looked (setup_of c.args.settings.now c.args.root.now files) c.args.ask.leaf c.args.sequence c.args.asked c.requires.leaf) (cut_view files c.in-Ok.cut) cut.0 _ _ _ _ _ cut.1 c.in-Err-listed.refusal turned)
+
+pub returns-in-Ok-playlist_of-clause-reads : goal.returns-in-Ok-playlist_of-clause-reads
+returns-in-Ok-playlist_of-clause-reads g c = λ head_only range.
+    told_with_other (g.S.Store.content c.args.store.now) _ _ _ _ c.in-Ok.ensures.content
+    (told_pair (g.S.Store.content c.args.store.now) _ _ c.in-Ok.ensures.told c.in-Ok.ensures.logged) c.in-Ok-listed.ensures.turned
+    (λ files cut turned.
+    reads_of_list (setup_of c.args.settings.now c.args.root.now files) head_only range c.args.ask c.args.sequence c.args.asked (index_looked (setup_of c.args.settings.now c.args.root.now files) c.args.ask.leaf c.args.sequence c.args.asked c.requires.leaf) (cut_view files c.in-Ok.cut) cut.0 _ _ _ _ _ cut.1
+    c.in-Ok-listed.listed turned _ _ c.begun.result c.begun.ensures)
+
+pub returns-clause-reads : goal.returns-clause-reads
+returns-clause-reads g c = λ head_only range.
+    told_with_other (g.S.Store.content c.args.store.now) _ _ _ _ c.in-Ok.ensures.content
+    (told_pair (g.S.Store.content c.args.store.now) _ _ c.in-Ok.ensures.told c.in-Ok.ensures.logged) c.in-Ok-listed.ensures.turned
+    (λ files cut turned.
+    reads_of_unlisted (setup_of c.args.settings.now c.args.root.now files) head_only range c.args.ask c.args.sequence c.args.asked (index_looked (setup_of c.args.settings.now c.args.root.now files) c.args.ask.leaf c.args.sequence c.args.asked c.requires.leaf) (cut_view files c.in-Ok.cut) cut.0 _ _ _ _ _ cut.1
+    c.in-Ok-listed.listed turned c.in-Err-playlist_of.refusal c.in-Err-playlist_of.ensures.only)
