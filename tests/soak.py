@@ -1,6 +1,6 @@
 #!/usr/bin/env python3
-"""Many requests of all kinds on one served origin, good and bad, over more films than are kept open: each reply must be that of
-`vodpack get`, and memory mustn't grow after the first thousand.
+"""Many requests of all kinds on one served origin, good and bad, for heads and for parts of clips too, over more films than are kept: each
+reply must be that of `vodpack get`, or the part of it that is asked for, and memory mustn't grow after the first thousand.
 
 usage: tests/soak.py [PROGRAM [COUNT [SEED]]]
 
@@ -22,7 +22,7 @@ from peer import PROGRAM, Served, get, replies  # noqa: E402
 
 EACH = 10000
 FILMS = 20
-STATUSES = {4: 404, 10: 404, 12: 500, 15: 404, 20: 404, 21: 500, 22: 500, 25: 404, 40: 404, 41: 404, 45: 404, 47: 404}
+STATUSES = {4: 404, 10: 404, 12: 500, 15: 404, 16: 404, 17: 404, 18: 404, 20: 404, 21: 500, 22: 500, 25: 404, 40: 404, 41: 404, 45: 404, 47: 404}
 
 
 def make_films(root):
@@ -51,7 +51,7 @@ def paths():
         found += [f"{hls}/{leaf}" for leaf in ("master.m3u8", "index-f1-v1-a1.m3u8", "seg-1-f1-v1-a1.ts", "seg-1-f1-a1.ts", "iframes-f1-v1.m3u8", "iframe-1-1-f1-v1.ts",
                                                "seg-9-f1-v1.ts", "index-f2-v1.m3u8", "iframe-1-99-f1-v1.ts")]
         found += [f"{dash}/{leaf}" for leaf in ("manifest.mpd", "init-c1-f1-v1.mp4", "init-c1-f1-a1.mp4", "init-c9-f1-a1.mp4", "fragment-1-f1-v1.m4s", "fragment-1-f1-a1.m4s",
-                                                "clipFrom/500/clipTo/1500/fragment-1-f1-v1.m4s", "fragment-1-f1-v2.m4s")]
+                                                "clipFrom/500/clipTo/1500/fragment-1-f1-v1.m4s", "fragment-1-f1-v2.m4s", "clip-f1-v1-a1.mp4", "clipFrom/900000/clip-f1-v1.mp4")]
     return found
 
 
@@ -62,6 +62,20 @@ def due(program, root, path):
         return 200, body
     number = int(re.match(rb"refused (\d+) ", line).group(1))
     return None if number == 28 else (STATUSES[number], line)
+
+
+def drawn(draw, path, whole):
+    """A request for a path, as its method and its head, with the status and the body that are due."""
+    status, body = whole
+    kind = draw.random()
+    if kind < 0.05:
+        return "HEAD", f"HEAD {path} HTTP/1.1\r\n\r\n", (status, b"")
+    if status == 200 and "/clip-" in path and kind < 0.7:
+        first = draw.randrange(len(body) + 5)
+        last = first + draw.choice([0, 99, 5000])
+        due = (206, body[first : last + 1]) if first < len(body) else (416, b"refused 7 BadRange\n")
+        return "GET", f"GET {path} HTTP/1.1\r\nRange: bytes={first}-{last}\r\n\r\n", due
+    return "GET", f"GET {path} HTTP/1.1\r\n\r\n", whole
 
 
 def main():
@@ -83,20 +97,20 @@ def main():
                 with origin.connect() as link:
                     left = min(EACH, count - done)
                     while left:
-                        batch = [draw.choice(asked) for _ in range(min(left, 50))]
-                        link.sendall(b"".join(f"GET {path} HTTP/1.1\r\n\r\n".encode() for path in batch))
+                        batch = [drawn(draw, path, known[path]) for path in draw.choices(asked, k=min(left, 50))]
+                        link.sendall("".join(head for _, head, _ in batch).encode())
                         got, found, rest = b"", [], b"?"
                         while len(found) < len(batch) or rest or not found[-1][3]:
                             piece = link.recv(1 << 20)
                             if not piece:
                                 sys.exit(f"FAILED: the connection was closed after {done} requests")
                             got += piece
-                            if len(got) < sum(len(known[path][1]) for path in batch):
+                            if len(got) < sum(len(body) for _, _, (_, body) in batch):
                                 continue
-                            found, rest = replies(got, ["GET"] * len(batch))
-                        for path, (status, _, body, _) in zip(batch, found):
-                            if (status, body) != known[path]:
-                                sys.exit(f"FAILED: {path} has another reply than get: {status}, {len(body)} bytes")
+                            found, rest = replies(got, [method for method, _, _ in batch])
+                        for (_, head, want), (status, _, body, _) in zip(batch, found):
+                            if (status, body) != want:
+                                sys.exit(f"FAILED: {head!r} has another reply than get: {status}, {len(body)} bytes")
                         left -= len(batch)
                         done += len(batch)
                         if first == 0 and done >= 1000:
