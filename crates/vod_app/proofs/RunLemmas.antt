@@ -15,7 +15,7 @@ use Rattle.origin_model.specs.Reads.{AreReads, path_reads}
 use Rattle.origin_model.specs.Requests.{Setup}
 use Rattle.vod_types.specs.declared.segments.Listed.{Listed}
 use Rattle.vod_source.specs.Calls.{LogsReads}
-use Rattle.mp4_flat.specs.Flat.{IsFlatAnswer, flat_seen}
+use Rattle.mp4_flat.specs.Flat.{flat_seen}
 use Rattle.segment_model.specs.Listing.{listed_view}
 use Rattle.mp4_flat.specs.Listings.{AreListed}
 use Rattle.mp4_flat.specs.Packed.{IsPackedAs}
@@ -160,10 +160,6 @@ module _ (due_of : Result Setup Refusal → Due) (has_leaf : Leaf → Bool) (fil
       }
 
 -- ---- the command `get`
-
-pub flat_refused : (due : Answer) (r : Refusal) → flat_seen due ≡ Err r → due ≡ Err r
-flat_refused (Ok body) r e = absurd cc
-flat_refused (Err other) r e = cc
 
 module _ (files : Files) (q : Requested) where
   pub got_of : (outcome : Outcome) (r : Refusal) (out : Option (List ℕ)) (log log_now : Option (List Read))

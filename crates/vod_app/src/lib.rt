@@ -16,6 +16,7 @@ ghost use Rattle.vod_app.specs.Services.{DoesBy, LogsSettings, ServiceOutcome, a
 mod answers;
 mod ends;
 mod lines;
+mod nowhere;
 mod packs;
 mod plans;
 mod reads;
