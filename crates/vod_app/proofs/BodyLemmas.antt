@@ -1,18 +1,17 @@
 -- What is written and read of a body, step by step.
-use Rattle.std.proofs.Common.{◌≡◌, ◌≢◌, ℕ, Bool, true, false, List, [], ◌++◌, Option, Some, None, IfSome, Result, Ok, Err, refl, sym, ap, ◌∙◌, subst, append_assoc}
+use Rattle.std.proofs.Common.{◌≡◌, ◌≢◌, ℕ, Bool, true, false, List, [], ◌++◌, Option, Some, None, IfSome, Ok, Err, refl, sym, ap, ◌∙◌, subst, append_assoc}
 use Rattle.vod_types.specs.declared.media.Media.{Media}
 use Rattle.vod_types.specs.declared.refusal.Refusal.{Refusal}
 use Rattle.vod_types.specs.declared.refusal.Refusal.TheVariants.{BadNal, NoMemory, StoreFailed}
 use Rattle.vod_types.specs.Settled.{Settled}
 use Rattle.list_model.specs.Command.{Outcome, done, no_memory, refused, store_failed, sink_failed}
-use Rattle.list_model.specs.Reply.{Answer, End, whole, bad_nal}
+use Rattle.list_model.specs.Reply.{Answer, End, whole}
 use Rattle.vod_source.specs.declared.step.Step.TheVariants as steps
 use Rattle.vod_source.specs.Calls.{LogsReads}
 use Rattle.vod_source.specs.Stored.{Files, Read}
 use Rattle.vod_source.specs.Told.{told_with, GrewByPrefix}
 use Rattle.vod_source.proofs.ToldLemmas.{GrewByPrefix-after, GrewByPrefix-same, told_with-more, told_with-nil}
 use Rattle.vod_http.specs.Answered.{Advances, IsReply, Rest, rest_of}
-use Rattle.vod_http.specs.declared.answerer.Reply.{Reply}
 use Rattle.vod_http.specs.declared.answerer.Reply.TheVariants.{Body, Refused}
 use Rattle.origin_model.specs.Answers.{answer, every_leaf}
 use Rattle.origin_model.specs.Outcomes.{Due, GainsDue, GainsReads, due_answer}

@@ -1,45 +1,36 @@
 -- What `reads` logs and writes, step by step.
-use Rattle.std.proofs.Common.{◌≡◌, ◌≢◌, ℕ, Bool, true, List, [], ◌++◌, ◌⊎◌, inl, inr, IfSome, Option, Some, None, Result, Ok, Err, refl, sym, ap, ◌∙◌, subst}
+use Rattle.std.proofs.Common.{◌≡◌, ◌≢◌, ℕ, true, List, [], ◌++◌, ◌⊎◌, inl, inr, IfSome, Option, Some, None, Result, Ok, Err, refl, sym, ap, ◌∙◌, subst}
 use Rattle.std.proofs.lemmas.Grind.{flat_map-append}
 use Rattle.vod_types.specs.declared.refusal.Refusal.{Refusal}
 use Rattle.vod_types.specs.declared.refusal.Refusal.TheVariants.{NoMemory, StoreFailed}
 use Rattle.vod_types.specs.Results.{◌>>=◌}
 use Rattle.vod_types.specs.Settled.{Settled}
 use Rattle.list_model.specs.Command.{Outcome, Requested, done, usage, refused, no_memory, store_failed, sink_failed, door_failed, read_line, reads_text}
-use Rattle.list_model.specs.Reply.{Answer, End, whole, bad_nal}
-use Rattle.vod_source.specs.Calls.{LogsReads}
 use Rattle.vod_source.specs.Logs.{LoggedValue, reads_of}
 use Rattle.vod_source.specs.Stored.{Files, Read}
 use Rattle.vod_source.specs.Told.{told_with, GrewByPrefix}
 use Rattle.vod_source.proofs.CallLemmas.{told_with_all}
 use Rattle.vod_source.proofs.ToldLemmas.{GrewByPrefix-front, GrewByPrefix-same, GrewByPrefix-whole, told_with-nil}
 use Rattle.origin_model.specs.Answers.{answer, every_leaf}
-use Rattle.origin_model.specs.Outcomes.{AreRequestReads, GainsDue, GainsReads, due_answer, end_refusal, get_due, reads_due, run_setup, setup_with}
+use Rattle.origin_model.specs.Outcomes.{AreRequestReads, Due, GainsDue, GainsReads, due_answer, get_due, reads_due, run_setup, setup_with}
 use Rattle.origin_model.specs.Reads.{path_reads}
 use Rattle.origin_model.specs.Requests.{Setup}
-use Rattle.flat_segments.specs.Bodies.{cut_of}
-use Rattle.flat_segments.specs.declared.body.FlatBody.{FlatBody}
-use Rattle.mp4_flat.specs.Flat.{IsFlatAnswer, flat_seen}
-use Rattle.vod_app.specs.Runs.{AreSettingsRead, cut_refusal, refused_outcome}
-use Rattle.vod_app.specs.ReadsRuns.{AreReadsWritten, EndsWith, IsEnd, IsLogged, IsReads, WritesReads}
-use Rattle.vod_app.proofs.RunLemmas.{are_some_reads, by_refusal, flat_refused, gained_all, gained_refused, some_reads}
+use Rattle.vod_app.specs.Runs.{AreSettingsRead, IsAnswerWritten, refused_outcome}
+use Rattle.vod_app.specs.ReadsRuns.{AreReadsWritten, EndsWith, IsLogged, IsReads, WritesReads}
+use Rattle.vod_app.proofs.BodyLemmas.{written_at}
+use Rattle.vod_app.proofs.RunLemmas.{are_some_reads, by_refusal, some_reads}
 
 -- ---- what an answer over an empty log leaves in it
 
--- the cut of a body is the refusal with which its answer ends
-end_seen : (end : End) → end_refusal end ≡ cut_refusal (cut_of end)
-end_seen whole = refl
-end_seen (bad_nal file sample) = refl
-
-abbrev cut_in : Option (ℕ × ℕ) → Result (List ℕ × Option (ℕ × ℕ)) Refusal → Option (ℕ × ℕ)
-cut_in other (Ok seen) = seen.1
-cut_in other (Err r) = other
-
-cut_seen : (due : Answer) (bytes : List ℕ) (cut : Option (ℕ × ℕ)) → flat_seen due ≡ Ok (bytes, cut) → (due_answer due).1 ≡ cut_refusal cut
-cut_seen (Ok body) bytes cut e =
-    let same : cut_of body.end ≡ cut = ap (cut_in cut) e in
-    subst (λ (seen : Option (ℕ × ℕ)). end_refusal body.end ≡ cut_refusal seen) same (end_seen body.end)
-cut_seen (Err r) bytes cut e = absurd cc
+-- what was written of it tells how it ends
+ends_as : (due : Due) (outcome : Outcome) (out out_now : Option (List ℕ)) → GainsDue due outcome out out_now → EndsWith due.1 outcome
+ends_as due done out out_now wrote = (wrote.0, refl)
+ends_as due (refused r) out out_now wrote = (wrote.0, refl)
+ends_as due store_failed out out_now wrote = GrewByPrefix-same (Some []) (Some []) [] refl
+ends_as due sink_failed out out_now wrote = GrewByPrefix-same (Some []) (Some []) [] refl
+ends_as due no_memory out out_now wrote = GrewByPrefix-same (Some []) (Some []) [] refl
+ends_as due usage out out_now wrote = absurd wrote
+ends_as due door_failed out out_now wrote = absurd wrote
 
 -- whatever the end, the log is the front of the reads
 in_front : (due : Option Refusal) (outcome : Outcome) (reads log : List Read) → EndsWith due outcome → GainsReads reads outcome (Some []) (Some log)
@@ -52,58 +43,35 @@ in_front due no_memory reads log ends e = e
 in_front due usage reads log ends e = absurd ends
 in_front due door_failed reads log ends e = absurd ends
 
-module _ (o : Setup) (given path : List ℕ) (outcome : Outcome) (log : List Read) where
-  -- the refusal of the answer that is due in the end
-  abbrev last : Option Refusal
-  last = (due_answer (answer o path None)).1
-
-  pub logged_end : (answered : Result FlatBody Refusal) → given ≡ path → IsFlatAnswer o given answered (Some []) (Some log)
-      → IsEnd answered outcome → IsLogged o path outcome log
-  logged_end (Ok body) same a ends =
-      let b = subst (λ p. IsFlatAnswer o p (Ok body) (Some []) (Some log)) same a in
-      let ends_so = subst (λ due. EndsWith due outcome) (sym (cut_seen (answer o path None) body.bytes.items body.cut b.answered)) ends in
-      record {
-        ends = ends_so;
-        reads = b.reads;
-        reads_are = b.reads_are;
-        logged = gained_all ([], last) outcome (Some []) (Some []) b.reads (Some []) (Some log) ends_so b.logged;
-      }
-  logged_end (Err r) same a ends =
-      let b = subst (λ p. IsFlatAnswer o p (Err r) (Some []) (Some log)) same a in
-      let gained =
-      gained_refused ([], last) b.reads (Some []) (Some []) (Some log) r
-      (λ known_memory known_store. ap (λ due. ([], (due_answer due).1)) (flat_refused (answer o path None) r (b.answered known_memory known_store)))
-      b.logged
-      in
-      subst (λ told. IsLogged o path told log) (sym ends) (record { ends = gained.0; reads = b.reads; reads_are = b.reads_are; logged = gained.1 })
+module _ (o : Setup) (path : List ℕ) (ended : Outcome) (out out_now : Option (List ℕ)) (log : List Read) (written : IsAnswerWritten o path ended out out_now (Some []) (Some log)) where
+  logged_end : IsLogged o path ended log
+  logged_end = record { ends = ends_as (due_answer (answer o path None)) ended out out_now written.wrote; reads = written.reads; reads_are = written.reads_are; logged = written.logged }
 
   -- whatever it was, where memory ran out for the log
-  pub logged_memory : (answered : Result FlatBody Refusal) → given ≡ path → IsFlatAnswer o given answered (Some []) (Some log)
-      → outcome ≡ no_memory → IsLogged o path outcome log
-  logged_memory answered same a e =
-      let b = subst (λ p. IsFlatAnswer o p answered (Some []) (Some log)) same a in
-      subst (λ told. IsLogged o path told log) (sym e)
-      (record { ends = GrewByPrefix-same (Some []) (Some []) [] refl; reads = b.reads; reads_are = b.reads_are; logged = some_of answered b.reads b.logged })
-    where
-      some_of : (answered : Result FlatBody Refusal) (reads : List Read) → LogsReads answered reads (Some []) (Some log) → GrewByPrefix (Some []) (Some log) reads
-      some_of (Ok body) reads e = GrewByPrefix-whole (Some []) (Some log) reads e
-      some_of (Err r) reads g = g.0
+  logged_memory : IsLogged o path no_memory log
+  logged_memory = record {
+    ends = GrewByPrefix-same (Some []) (Some []) [] refl;
+    reads = written.reads;
+    reads_are = written.reads_are;
+    logged = in_front (due_answer (answer o path None)).1 ended written.reads log (ends_as (due_answer (answer o path None)) ended out out_now written.wrote) written.logged;
+  }
 
 -- of a store that kept an empty log at first
-module _ {S : Type 0} (content : S → Option Files) (o : Files → Setup) (given path : List ℕ) (outcome : Outcome) where
-  abbrev Told : LoggedValue S → LoggedValue S → Result FlatBody Refusal → Type 0
-  Told before now answered =
-      IfSome (content before.inner) (λ files. IsFlatAnswer (o files) given answered (Some (reads_of before.names before.entries)) (Some (reads_of now.names now.entries)))
+module _ {S : Type 0} (content : S → Option Files) (o : Files → Setup) (given path : List ℕ) (ended outcome : Outcome) (out out_now : Option (List ℕ)) where
+  abbrev Told : LoggedValue S → LoggedValue S → Type 0
+  Told before now =
+      IfSome (content before.inner) (λ files. IsAnswerWritten (o files) given ended out out_now (Some (reads_of before.names before.entries)) (Some (reads_of now.names now.entries)))
 
-  pub logged_from : (before now same : LoggedValue S) (store : S) (answered : Result FlatBody Refusal)
-      → before ≡ record { inner = store; names = []; entries = []; refused = 0 } → Told before now answered → given ≡ path
-      → IsEnd answered outcome ⊎ (outcome ≡ no_memory) → same ≡ now
+  pub logged_from : (before now same : LoggedValue S) (store : S)
+      → before ≡ record { inner = store; names = []; entries = []; refused = 0 } → Told before now → given ≡ path
+      → (outcome ≡ ended) ⊎ (outcome ≡ no_memory) → same ≡ now
       → IfSome (content store) (λ files. IsLogged (o files) path outcome (reads_of same.names same.entries))
-  logged_from before now same store answered fresh told given_is ends is =
+  logged_from before now same store fresh told given_is ends is =
       subst (λ (l : LoggedValue S). IfSome (content store) (λ files. IsLogged (o files) path outcome (reads_of l.names l.entries))) (sym is)
-      (told_with_all (content store) _ _ (subst (λ (l : LoggedValue S). Told l now answered) fresh told) (λ files a. elim ends [
-        | inl end ↦ logged_end (o files) given path outcome (reads_of now.names now.entries) answered given_is a end
-        | inr none ↦ logged_memory (o files) given path outcome (reads_of now.names now.entries) answered given_is a none
+      (told_with_all (content store) _ _ (subst (λ (l : LoggedValue S). Told l now) fresh told)
+      (λ files w. let at = written_at (o files) given path ended out out_now (Some []) (Some (reads_of now.names now.entries)) given_is w in elim ends [
+        | inl end ↦ subst (λ (told : Outcome). IsLogged (o files) path told (reads_of now.names now.entries)) (sym end) (logged_end (o files) path ended out out_now (reads_of now.names now.entries) at)
+        | inr none ↦ subst (λ (told : Outcome). IsLogged (o files) path told (reads_of now.names now.entries)) (sym none) (logged_memory (o files) path ended out out_now (reads_of now.names now.entries) at)
       ]))
 
 -- ---- the lines of a log

@@ -7,17 +7,15 @@ use Rattle.vod_types.specs.declared.paths.Leaf.{Leaf}
 use Rattle.vod_types.specs.Results.{◌>>=◌}
 use Rattle.vod_types.specs.Settled.{Settled}
 use Rattle.list_model.specs.Command.{Outcome, Requested, plan_text, done, usage, refused, no_memory, store_failed, sink_failed, door_failed}
-use Rattle.list_model.specs.Reply.{Answer}
 use Rattle.origin_model.specs.Answers.{answer, every_leaf, is_index, path_rows}
 use Rattle.origin_model.specs.Outcomes.{AreRequestReads, Due, GainsDue, GainsReads, due_answer, due_rows, due_with, get_due, pack_due, plan_due, run_setup, settings_reads, setup_with}
 use Rattle.origin_model.specs.Packaging.{packed_path}
-use Rattle.origin_model.specs.Reads.{AreReads, path_reads}
+use Rattle.origin_model.specs.Reads.{AreReads, Cache, path_reads}
 use Rattle.origin_model.specs.Requests.{Setup}
 use Rattle.vod_types.specs.declared.segments.Listed.{Listed}
 use Rattle.vod_source.specs.Calls.{LogsReads}
-use Rattle.mp4_flat.specs.Flat.{IsFlatAnswer, flat_seen}
-use Rattle.segment_model.specs.Listing.{listed_view}
-use Rattle.mp4_flat.specs.Listings.{AreListed}
+use Rattle.segment_model.specs.Listing.{ListedSegment, listed_view}
+use Rattle.vod_origin.specs.Listings.{ListsPath}
 use Rattle.mp4_flat.specs.Packed.{IsPackedAs}
 use Rattle.mp4_flat.specs.declared.entries.PackEnd.{PackEnd}
 use Rattle.mp4_flat.specs.declared.entries.PackEnd.TheVariants.{Whole, Refused, SinkFailed}
@@ -161,10 +159,6 @@ module _ (due_of : Result Setup Refusal → Due) (has_leaf : Leaf → Bool) (fil
 
 -- ---- the command `get`
 
-pub flat_refused : (due : Answer) (r : Refusal) → flat_seen due ≡ Err r → due ≡ Err r
-flat_refused (Ok body) r e = absurd cc
-flat_refused (Err other) r e = cc
-
 module _ (files : Files) (q : Requested) where
   pub got_of : (outcome : Outcome) (r : Refusal) (out : Option (List ℕ)) (log log_now : Option (List Read))
       → outcome ≡ refused_outcome r → AreSettingsRead files q.settings (Err r) log log_now → IsGet files q outcome out out log log_now
@@ -192,27 +186,51 @@ gained_all due no_memory out out_now reads log log_now wrote e = GrewByPrefix-wh
 gained_all due usage out out_now reads log log_now wrote e = wrote
 gained_all due door_failed out out_now reads log log_now wrote e = wrote
 
-module _ (o : Setup) (given path : List ℕ) (outcome : Outcome) (out : Option (List ℕ)) (log log_now : Option (List Read)) where
-  pub plan_refused : (r : Refusal) → given ≡ path → outcome ≡ refused_outcome r → AreListed o given (Err r) log log_now
-      → IsPlanWritten o path outcome out out log log_now
-  plan_refused r same e a =
-      let b = subst (λ p. AreListed o p (Err r) log log_now) same a in
-      written_refused b.reads r outcome out log log_now e (λ known_memory known_store. ap due_rows (b.answered known_memory known_store)) b.reads_are b.logged
+module _ {X : Type 0} (items : X → List Listed) (o : Setup) (path : List ℕ) (outcome : Outcome) (cache cache_now : Cache) (none : cache ≡ []) (out : Option (List ℕ)) (log log_now : Option (List Read)) where
+  abbrev rows_view : X → List ListedSegment
+  rows_view rows = map listed_view (items rows)
 
-  pub plan_written : (rows shown : List Listed) (out_now : Option (List ℕ)) → given ≡ path → shown ≡ rows
+  abbrev rows_reads : List Read
+  rows_reads = path_reads is_index o [] false [] path None
+
+  rows_are : AreReads is_index o [] false path None rows_reads
+  rows_are = record { taken = []; are = refl }
+
+  same_reads : path_reads is_index o cache false [] path None ≡ rows_reads
+  same_reads = ap (λ (c : Cache). path_reads is_index o c false [] path None) none
+
+  pub plan_refused : (r : Refusal) → outcome ≡ refused_outcome r → ListsPath rows_view o path (Err r) cache cache_now log log_now → IsPlanWritten o path outcome out out log log_now
+  plan_refused r e lists =
+      written_refused rows_reads r outcome out log log_now e (λ known_memory known_store. ap due_rows (lists.answered known_memory known_store)) rows_are
+      (subst (λ (reads : List Read). LogsReads {X = List ℕ} (Err r) reads log log_now) same_reads lists.logged)
+
+  pub plan_written : (rows : X) (shown : List Listed) (out_now : Option (List ℕ)) → shown ≡ items rows
       → GainsDue (plan_text (map listed_view shown), None) outcome out out_now
-      → AreListed o given (Ok rows) log log_now → IsPlanWritten o path outcome out out_now log log_now
-  plan_written rows shown out_now same all wrote a =
-      let b = subst (λ p. AreListed o p (Ok rows) log log_now) same a in
+      → ListsPath rows_view o path (Ok rows) cache cache_now log log_now → IsPlanWritten o path outcome out out_now log log_now
+  plan_written rows shown out_now all wrote lists =
       let due : due_rows (path_rows o path) ≡ (plan_text (map listed_view shown), None) =
-      ap due_rows b.answered ∙ ap (λ rows. (plan_text (map listed_view rows), None)) (sym all)
+      ap due_rows lists.answered ∙ ap (λ rows. (plan_text (map listed_view rows), None)) (sym all)
       in
       record {
         wrote = subst (λ due. GainsDue due outcome out out_now) (sym due) wrote;
-        reads = b.reads;
-        reads_are = b.reads_are;
-        logged = gained_all (plan_text (map listed_view shown), None) outcome out out_now b.reads log log_now wrote b.logged;
+        reads = rows_reads;
+        reads_are = rows_are;
+        logged = gained_all (plan_text (map listed_view shown), None) outcome out out_now rows_reads log log_now wrote (lists.logged ∙ ap (told_with log) same_reads);
       }
+
+-- of a request that wasn't made for want of memory
+pub plan_unmade : (o : Setup) (path : List ℕ) (out : Option (List ℕ)) (log : Option (List Read)) → IsPlanWritten o path no_memory out out log log
+plan_unmade o path out log = record {
+  wrote = GrewByPrefix-same out out (due_rows (path_rows o path)).0 refl;
+  reads = path_reads is_index o [] false [] path None;
+  reads_are = record { taken = []; are = refl };
+  logged = GrewByPrefix-same log log (path_reads is_index o [] false [] path None) refl;
+}
+
+-- the same path by another name
+pub plan_at : (o : Setup) (given path : List ℕ) (outcome : Outcome) (out out_now : Option (List ℕ)) (log log_now : Option (List Read)) → given ≡ path
+    → IsPlanWritten o given outcome out out_now log log_now → IsPlanWritten o path outcome out out_now log log_now
+plan_at o given path outcome out out_now log log_now same written = subst (λ (p : List ℕ). IsPlanWritten o p outcome out out_now log log_now) same written
 
 module _ (files : Files) (q : Requested) where
   pub planned_of : (outcome : Outcome) (r : Refusal) (out : Option (List ℕ)) (log log_now : Option (List Read))

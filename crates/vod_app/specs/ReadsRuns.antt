@@ -1,5 +1,5 @@
 -- What `reads` writes; this project's own.
-use Rattle.std.specs.Prelude.{◌≡◌, ℕ, true, List, [], Option, Some, None, Result, MatchResult}
+use Rattle.std.specs.Prelude.{◌≡◌, ℕ, true, List, [], Option, Some, None}
 use Rattle.vod_types.specs.declared.refusal.Refusal.{Refusal}
 use Rattle.list_model.specs.Command.{Requested, Outcome, outcome_status, reads_text}
 use Rattle.vod_source.specs.Stored.{Files, Read}
@@ -7,16 +7,10 @@ use Rattle.origin_model.specs.Answers.{answer, every_leaf}
 use Rattle.origin_model.specs.Outcomes.{AreRequestReads, GainsDue, GainsLine, GainsReads, due_answer, reads_due, run_setup}
 use Rattle.origin_model.specs.Reads.{AreReads}
 use Rattle.origin_model.specs.Requests.{Setup}
-use Rattle.flat_segments.specs.declared.body.FlatBody.{FlatBody}
-use Rattle.vod_app.specs.Runs.{cut_refusal, refused_outcome}
 
 -- it is done where nothing is refused in the end, and else refused with that, unless it failed
 abbrev pub EndsWith : Option Refusal → Outcome → Type 0
 EndsWith due outcome = GainsDue ([], due) outcome (Some []) (Some [])
-
--- the end of what was answered
-abbrev pub IsEnd : Result FlatBody Refusal → Outcome → Type 0
-IsEnd answered outcome = MatchResult answered (λ body. EndsWith (cut_refusal body.cut) outcome) (λ refusal. outcome ≡ refused_outcome refusal)
 
 -- The answer of a path ended so, and these reads of it are in a log that was empty.
 pub record IsLogged (o : Setup) (path : List ℕ) (outcome : Outcome) (log : List Read) : Type 0 where

@@ -1,5 +1,5 @@
 -- How a run ends, what it has written and what it has read; this project's own.
-use Rattle.std.specs.Prelude.{◌≡◌, ℕ, Bool, true, false, List, [], Option, Some, None, Result}
+use Rattle.std.specs.Prelude.{◌≡◌, ℕ, Bool, true, false, List, [], Option, None, Result}
 use Rattle.vod_types.specs.declared.paths.Leaf.{Leaf}
 use Rattle.vod_types.specs.declared.refusal.Refusal.{Refusal}
 use Rattle.vod_types.specs.declared.refusal.Refusal.TheVariants as refusals
@@ -42,11 +42,6 @@ pub record AreSettingsRead (files : Files) (name : List ℕ) (result : Result Se
 -- what is due of a body of which this is left
 abbrev pub due_rest : Rest → Due
 due_rest rest = (rest.0, end_refusal rest.1)
-
--- the refusal that stands for a cut
-abbrev pub cut_refusal : Option (ℕ × ℕ) → Option Refusal
-cut_refusal None = None
-cut_refusal (Some cut) = Some (refusals.BadNal cut.0 cut.1)
 
 -- What was written of what is due for a path, and what was read for it, by this outcome.
 pub record IsWritten (due : Due) (has_leaf : Leaf → Bool) (o : Setup) (with_body : Bool) (path : List ℕ) (outcome : Outcome) (out out_now : Option (List ℕ)) (log log_now : Option (List Read)) : Type 0 where

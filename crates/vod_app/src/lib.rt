@@ -16,6 +16,7 @@ ghost use Rattle.vod_app.specs.Services.{DoesBy, LogsSettings, ServiceOutcome, a
 mod answers;
 mod ends;
 mod lines;
+mod nowhere;
 mod packs;
 mod plans;
 mod reads;
@@ -199,10 +200,7 @@ fn run_command<S: Store, D: Door, K: Sink>(
 {
     match Command::read(words) {
         Some(Command::Get(request)) => get(alloc, request, store, out),
-        Some(Command::Plan(request)) => {
-            let end = plan(alloc, request, &mut store, out);
-            Done { end, store }
-        }
+        Some(Command::Plan(request)) => plan(alloc, request, store, out),
         Some(Command::Pack(request)) => {
             let end = pack(alloc, request, &mut store, out);
             Done { end, store }

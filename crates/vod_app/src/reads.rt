@@ -1,27 +1,27 @@
 //! The command `reads`.
 
-ghost use Rattle.std.specs.Prelude.{◌≡◌, ◌≢◌, ◌≤◌, ◌++◌, ◌⊎◌, IfErr, IfOk, IfSome, IsErrOf, OnOk, string_bytes};
+ghost use Rattle.std.specs.Prelude.{◌≡◌, ◌≢◌, ◌≤◌, ◌++◌, ◌⊎◌, IfErr, IfOk, IfSome, OnOk, string_bytes};
 ghost use Rattle.list_model.specs.Command.{door_failed, no_memory, read_line, reads_text as reads_text_of, sink_failed, store_failed, usage};
 ghost use Rattle.vod_source.specs.Causes.{Rose};
 ghost use Rattle.vod_source.specs.Logs.{reads_of};
-ghost use Rattle.vod_types.specs.declared.refusal.Refusal.TheVariants.{StoreFailed};
 ghost use Rattle.origin_model.specs.Outcomes.{setup_with};
 ghost use Rattle.vod_app.specs.Commands.{requested};
-ghost use Rattle.vod_app.specs.Runs.{cut_refusal, outcome_of};
-ghost use Rattle.vod_app.specs.ReadsRuns.{EndsWith, IsEnd, IsLogged, IsReads, AreReadsWritten, WritesReads};
+ghost use Rattle.vod_app.specs.Runs.{outcome_of};
+ghost use Rattle.vod_app.specs.ReadsRuns.{IsLogged, IsReads, AreReadsWritten, WritesReads};
 
+use crate::answers::write_answer;
 use crate::ends::End;
+use crate::nowhere::Nowhere;
 use crate::plans::push_number;
 use crate::serves::Done;
 use crate::settings::read_named;
 use crate::watched::{Base, Watched};
 use crate::words::Request;
-use mp4_flat::{FlatBody, answer};
 use std::alloc::{AllocError, Global};
 use std::marker::Brand;
 use std::string::String;
 use vod_source::{Lent, Logged, Sink, Store};
-use vod_types::{Refusal, Settings};
+use vod_types::Settings;
 
 /// Writes a line for each read that the answer of a path makes: the file's name, the place and the number of bytes. The body
 /// isn't written, and the reads of the settings aren't either. Where the request is refused the reads made so far are written.
@@ -45,7 +45,7 @@ pub fn reads<S: Store, K: Sink>(
 {
     let mut store = store;
     match read_named(alloc, &mut store, request.settings) {
-        Ok(settings) => reads_with(alloc, &settings, request, store, out),
+        Ok(settings) => reads_with(alloc, settings, request, store, out),
         Err(refusal) => Done {
             end: End::refused(refusal),
             store,
@@ -56,12 +56,12 @@ pub fn reads<S: Store, K: Sink>(
 // Writes the reads of a path with these settings.
 fn reads_with<S: Store, K: Sink>(
     alloc: Global,
-    settings: &Settings,
+    settings: Settings,
     request: Request<'_>,
     store: S,
     out: &mut K,
 ) -> Done<S>
-    ensures reads { IfSome (S.content store) (λ files. AreReadsWritten (setup_with files (requested request.entry) settings.now) (requested request.entry).path
+    ensures reads { IfSome (S.content store) (λ files. AreReadsWritten (setup_with files (requested request.entry) settings) (requested request.entry).path
         (outcome_of result.end) (K.written out.old) (K.written out.new)) }
     ensures form { outcome_of result.end ≢ usage }
     ensures door { outcome_of result.end ≢ door_failed }
@@ -90,12 +90,12 @@ fn reads_with<S: Store, K: Sink>(
 // Asks for the answer of a path over a log, and how that ends; or the store comes back for want of memory.
 fn answer_logged<S: Store, B: Base>(
     alloc: Global,
-    settings: &Settings,
+    settings: Settings,
     request: Request<'_>,
     store: S,
 ) -> Result<(End, Logged<S>), S>
     requires base { B.faults ≡ S.faults store }
-    ensures logged { IfSome (S.content store) (λ files. IfOk result (λ ran. IsLogged (setup_with files (requested request.entry) settings.now) (requested request.entry).path
+    ensures logged { IfSome (S.content store) (λ files. IfOk result (λ ran. IsLogged (setup_with files (requested request.entry) settings) (requested request.entry).path
         (outcome_of ran.0) (reads_of ran.1.names ran.1.entries))) }
     ensures form { IfOk result (λ ran. (outcome_of ran.0 ≢ usage) × (outcome_of ran.0 ≢ sink_failed) × (outcome_of ran.0 ≢ door_failed)) }
     ensures content { IfOk result (λ ran. S.content ran.1.inner ≡ S.content store) }
@@ -103,39 +103,25 @@ fn answer_logged<S: Store, B: Base>(
     ensures store_failed { IfOk result (λ ran. outcome_of ran.0 ≡ store_failed → Rose (S.faults store) (S.faults ran.1.inner)) }
     ensures back { IfErr result (λ same. same ≡ store) }
 {
-    let mut watched = Watched::<S, B>::new(alloc, store)?;
+    let watched = Watched::<S, B>::new(alloc, store)?;
     let path = request.path.as_bytes();
-    let answered = answer(alloc, &mut watched, settings, request.root, path);
-    let logged = watched.into_logged();
-    let end = end_of(answered, logged.refused());
+    let mut nowhere = Nowhere;
+    let ran = write_answer(alloc, watched, settings, request.root, path, &mut nowhere);
+    let Done { end, store } = ran;
+    let logged = store.into_logged();
+    let end = end_of(end, logged.refused());
     Ok((end, logged))
 }
 
-// The end of an answer, whose body may end before a bad sample, where memory was wanting for its log so often.
-fn end_of(answered: Result<FlatBody, Refusal>, refused: u64) -> End
-    ensures ends { IsEnd answered (outcome_of result) ⊎ (outcome_of result ≡ no_memory) }
-    ensures form { (outcome_of result ≢ usage) × (outcome_of result ≢ sink_failed) × (outcome_of result ≢ door_failed) }
-    ensures store { outcome_of result ≡ store_failed → IsErrOf answered StoreFailed × (refused ≡ 0) }
+// The end of a request, where memory was wanting for its log so often.
+fn end_of(end: End, refused: u64) -> End
+    ensures ends { (outcome_of result ≡ outcome_of end) ⊎ (outcome_of result ≡ no_memory) }
+    ensures store { outcome_of result ≡ store_failed → (outcome_of end ≡ store_failed) × (refused ≡ 0) }
 {
     if refused > 0 {
         return End::NoMemory;
     }
-    match answered {
-        Ok(body) => end_at(body.cut),
-        Err(refusal) => End::refused(refusal),
-    }
-}
-
-// The end of a body that may end before a bad sample.
-fn end_at(cut: Option<(u32, u64)>) -> End
-    ensures ends { EndsWith (cut_refusal cut) (outcome_of result) }
-    ensures form { (outcome_of result ≢ usage) × (outcome_of result ≢ sink_failed) × (outcome_of result ≢ door_failed) }
-    ensures store { outcome_of result ≢ store_failed }
-{
-    match cut {
-        Some((file, sample)) => End::Refused(Refusal::BadNal { file, sample }),
-        None => End::Done,
-    }
+    end
 }
 
 // Writes the lines of a log in one call, for a request that ended so.

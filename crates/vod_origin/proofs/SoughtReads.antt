@@ -163,6 +163,14 @@ module _ (names_in : Timeline × Cutting → List (List ℕ)) (samples_in : Time
         split : asked_reads o cache head_only range ask ≡ (mapped ++ (turns o.files cache (names_in s)).reads) ++ samples_read head_only (samples_in s)
         split = all_reads ∙ sym (append_assoc mapped (turns o.files cache (names_in s)).reads (samples_read head_only (samples_in s)))
 
+        -- it was found, and no sample is to be read
+        pub reads_found : samples_in s ≡ []
+            → (log_now ≡ told_with log (asked_reads o cache head_only range ask)) × (cache_now ≡ (turns o.files cache (asked_names o ask)).cache)
+        reads_found none = (
+          made ∙ ap (told_with log) (sym (split ∙ ap (λ (xs : List Read). (mapped ++ (turns o.files cache (names_in s)).reads) ++ xs) (no_samples none) ∙ append-nil (mapped ++ (turns o.files cache (names_in s)).reads))),
+          turned.cache ∙ ap (λ (names : List (List ℕ)). (turns o.files cache names).cache) (sym all_names),
+        )
+
         -- it was found, and memory ran out then
         pub reads_unmade : (e : Refusal) → e ≡ NoMemory → ReadsForAsk o head_only range ask (Refused e) cache cache_now log log_now
         reads_unmade e is = record {

@@ -109,8 +109,8 @@ pub(crate) fn iframes_reply<S: Store>(
     }
 }
 
-// The listed segments of a sequence, over the metadata that are kept.
-fn listed<S: Store>(
+/// The listed segments of a sequence, over the metadata that are kept.
+pub(crate) fn listed<S: Store>(
     alloc: Global,
     metas: &mut Option<Metas>,
     store: &mut S,

@@ -1,5 +1,4 @@
 -- The answer is the body that was written, as far as it came, or what the request was refused with.
-use Rattle.std.proofs.Common.{refl}
 use Rattle.vod_app.proofs.BodyLemmas.{through_body, through_refused}
 use Rattle.vod_app.proofs.answers.write_through.Goals as goal
 

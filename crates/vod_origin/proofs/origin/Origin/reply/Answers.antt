@@ -5,7 +5,7 @@ use Rattle.vod_source.proofs.CallLemmas.{told_all, told_with_all}
 use Rattle.vod_http.specs.Answered.{IsReply}
 use Rattle.flat_lists.specs.Asked.{setup_of}
 use Rattle.vod_origin.specs.Begun.{Begins}
-use Rattle.vod_origin.specs.Kept.{OriginKept, origin_answer}
+use Rattle.vod_origin.specs.Kept.{OriginKept}
 use Rattle.vod_origin.specs.Ranges.{clip_of}
 use Rattle.origin_model.specs.Reads.{Cache}
 use Rattle.vod_origin.specs.Reads.{ReadsForPath, cache_of}

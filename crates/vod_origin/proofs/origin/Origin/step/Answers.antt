@@ -1,6 +1,4 @@
 -- The step of a body that is made, which reads nothing.
-use Rattle.std.proofs.Common.{refl}
-use Rattle.vod_source.proofs.CallLemmas.{told_all}
 use Rattle.vod_origin.proofs.origin.Origin.step.Goals as goal
 
 pub returns-in-Made-clause-steps : goal.returns-in-Made-clause-steps
