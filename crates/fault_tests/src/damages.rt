@@ -150,15 +150,22 @@ fn limits_are_kept(rt: HostRuntime) -> Result<(), Fail> {
 }
 
 #[test]
-fn failing_calls_end_the_run_before_a_byte(rt: HostRuntime) -> Result<(), Fail> {
+fn failing_calls_end_the_run(rt: HostRuntime) -> Result<(), Fail> {
     let alloc = rt.alloc();
     let words = "get /r s.json /local/dash/f.mp4/fragment-1-a1.m4s";
-    // Two calls for the settings, one for the size, two for headers, one for the movie, and two for samples.
+    // Two calls for the settings, one for the size, two for headers, one for the movie, and two for samples. Before these the
+    // front part is written, which ends with the head of `mdat`, and each sample as soon as it is read.
     for call in 1..=8 {
         let fails = vec![in alloc; call]?;
         let store = store_of(alloc, "/r/f.mp4", two_samples(alloc)?, fails)?;
         let it = ran(alloc, words, store)?;
-        assert!(rt; it.status == 3 && it.body.is_empty(), "at call {call}");
+        let last: &[u8] = match call {
+            7 => b"mdat",
+            8 => b"mdat\x01\x02\x03\x04\x05\x06\x07\x08\x09\x0a",
+            _ => b"",
+        };
+        assert!(rt; it.status == 3 && it.body.ends_with(last), "at call {call}");
+        assert!(rt; call > 6 || it.body.is_empty(), "at call {call}");
         assert_eq!(rt; it.line.as_slice(), b"store failed\n".as_slice());
     }
     // A path that isn't in the grammar asks for the settings alone.
