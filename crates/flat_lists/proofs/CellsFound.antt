@@ -208,7 +208,7 @@ module _ (o : Setup) (a : Asking) where
       (sum_by-cons (lists.part_cells o a s) (k, part_view f.0) (enumerate_from (k + 1) (map part_view rest.0)) ∙ ap₂ (λ (i j : ℕ). i + j) one later
       ∙ sym (sum_by-cons (part_cells g) (part_kept m sequence f.0) (map (part_kept m sequence) rest.0)))
 
-  abbrev seen_cells : SequenceSeen → ℕ
+  abbrev pub seen_cells : SequenceSeen → ℕ
   seen_cells s = sum_by (part_cells g) s.parts
 
   one_found : (m : Mapping) (sequence : ℕ) (f : SequenceFound) → sequence_found o a sequence ≡ Ok f → lists.sequence_cells o a (sequence_view f) ≡ seen_cells (sequence_kept m f)
@@ -220,7 +220,7 @@ module _ (o : Setup) (a : Asking) where
       subst (λ (f : SequenceFound). lists.sequence_cells o a (sequence_view f) ≡ seen_cells (sequence_kept m f)) same
       (parts_cells m sequence (sequence_view made) 0 t.0.parts fs.0 refl fs.1)
 
-  all_found : (m : Mapping) (ns : List ℕ) (fs : List SequenceFound) → each_in_turn (sequence_found o a) ns ≡ Ok fs → sum_by (lists.sequence_cells o a) (map sequence_view fs) ≡ sum_by seen_cells (map (sequence_kept m) fs)
+  pub all_found : (m : Mapping) (ns : List ℕ) (fs : List SequenceFound) → each_in_turn (sequence_found o a) ns ≡ Ok fs → sum_by (lists.sequence_cells o a) (map sequence_view fs) ≡ sum_by seen_cells (map (sequence_kept m) fs)
   all_found m [] fs e =
       let none : [] ≡ fs = cc in
       subst (λ (fs : List SequenceFound). sum_by (lists.sequence_cells o a) (map sequence_view fs) ≡ sum_by seen_cells (map (sequence_kept m) fs)) none refl
@@ -232,7 +232,7 @@ module _ (o : Setup) (a : Asking) where
       (sum_by-cons (lists.sequence_cells o a) (sequence_view f.0) (map sequence_view rest.0) ∙ ap₂ (λ (i j : ℕ). i + j) (one_found m n f.0 f.1) (all_found m ns rest.0 rest.1)
       ∙ sym (sum_by-cons seen_cells (sequence_kept m f.0) (map (sequence_kept m) rest.0)))
 
-  mapped_sum : {X Y : Type 0} (f : Y → ℕ) (h : X → Y) (xs : List X) → sum_by f (map h xs) ≡ sum_by (λ x. f (h x)) xs
+  pub mapped_sum : {X Y : Type 0} (f : Y → ℕ) (h : X → Y) (xs : List X) → sum_by f (map h xs) ≡ sum_by (λ x. f (h x)) xs
   mapped_sum f h [] = refl
   mapped_sum f h (x ∷ xs) = sum_by-cons f (h x) (map h xs) ∙ ap (λ (n : ℕ). f (h x) + n) (mapped_sum f h xs) ∙ sym (sum_by-cons (λ x. f (h x)) x xs)
 

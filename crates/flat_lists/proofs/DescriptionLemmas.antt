@@ -31,7 +31,7 @@ module _ (o : Setup) (a : Asking) where
   few_then (Ok x) ps = refl
   few_then (Err e) ps = refl
 
-  due_is : description_due o a ≡ (sequences_found o a >>= λ fs. described_due o a (map sequence_view fs))
+  pub due_is : description_due o a ≡ (sequences_found o a >>= λ fs. described_due o a (map sequence_view fs))
   due_is =
       ap (λ (r : Result (List Period) Refusal). r >>= λ found. Ok (manifest (grid_in_use o a).step found)) periods-are
       ∙ ap (λ (r : Result (List CheckedSequence) Refusal). (r >>= λ ss. few_cells (sum_by (sequence_cells o a) ss) >> Ok (map (period_of o a ss) (enumerate_from 0 (first_parts o a ss)))) >>= λ found. Ok (manifest (grid_in_use o a).step found)) (sequences_are o a)

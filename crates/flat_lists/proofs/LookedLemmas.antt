@@ -124,7 +124,7 @@ not_failed_by (Err e) h f = h (let same : e ≡ StoreFailed = cc in same)
 
 -- ---- the pieces behind the first one
 
-pieces-append : (place : ℕ) (cs : List CheckedPiece) (c : CheckedPiece) (seen : PartSeen) → pieces_added place (cs ++ c ∷ []) seen ≡ part_with (place + length cs) c (pieces_added place cs seen)
+pub pieces-append : (place : ℕ) (cs : List CheckedPiece) (c : CheckedPiece) (seen : PartSeen) → pieces_added place (cs ++ c ∷ []) seen ≡ part_with (place + length cs) c (pieces_added place cs seen)
 pieces-append place [] c seen = ap (λ (n : ℕ). part_with n c seen) (let same : place ≡ place + 0 = omega arith in same)
 pieces-append place (d ∷ cs) c seen =
     pieces-append (place + 1) cs c (part_with place d seen)
@@ -210,7 +210,7 @@ pieces_due m sequence c before (d ∷ cs) =
     ap₂ (λ (n : ℕ) (s : PartSeen). pieces_added n cs s) n (part_more m sequence c before d)
     ∙ pieces_due m sequence c (before ++ d ∷ []) cs ∙ ap (λ (ds : List CheckedPiece). part_due m sequence (c ∷ ds)) (append_assoc before (d ∷ []) cs)
 
-pieces_first : (m : Mapping) (sequence : ℕ) (c : CheckedPiece) (cs : List CheckedPiece) (seen now : PartSeen) → seen ≡ part_due m sequence (c ∷ []) → now ≡ pieces_added 1 cs seen → now ≡ part_due m sequence (c ∷ cs)
+pub pieces_first : (m : Mapping) (sequence : ℕ) (c : CheckedPiece) (cs : List CheckedPiece) (seen now : PartSeen) → seen ≡ part_due m sequence (c ∷ []) → now ≡ pieces_added 1 cs seen → now ≡ part_due m sequence (c ∷ cs)
 pieces_first m sequence c cs seen now e f =
     let one : 1 ≡ length (c ∷ []) = omega arith in
     f ∙ ap₂ (λ (n : ℕ) (s : PartSeen). pieces_added n cs s) one e ∙ pieces_due m sequence c [] cs
@@ -238,7 +238,7 @@ module _ (files : Files) (edits : Bool) where
         ap (λ (f : Asked × CheckedPiece). checked files edits f.0 piece) (sym same) ∙ checked_loaded files edits asked.0 piece movie.0 movie.1 ∙ c.1 ∙ ap (λ (f : Asked × CheckedPiece). Ok f.1) same,
       )
 
-  first_bad : (piece : Piece) (e : Refusal) → first_found files edits piece ≡ Err e → checked_by files edits piece piece ≡ Err e
+  pub first_bad : (piece : Piece) (e : Refusal) → first_found files edits piece ≡ Err e → checked_by files edits piece piece ≡ Err e
   first_bad piece e is = by_movie (loaded files piece.name) refl
     where
       by_checked : (m : Movie) (asked : Asked) (r : Result CheckedPiece Refusal) → loaded files piece.name ≡ Ok m → asked_in piece m ≡ Ok asked → checked_in edits asked piece m ≡ r → checked files edits asked piece ≡ Err e

@@ -32,7 +32,7 @@ use Rattle.origin_model.specs.Samples.{checked_track}
 use Rattle.origin_model.specs.Sources.{part_pieces, source_of, source_part}
 use Rattle.flat_lists.specs.Described.{AreFound, part_view, periods_due, sequence_view}
 use Rattle.flat_lists.specs.LookedParts.{PartFound, first_found, part_found}
-use Rattle.flat_lists.specs.LookedSequences.{FoundPart, SequenceFound, found_in, numbers, part_kept, sequence_found, sequence_kept, sequence_seen}
+use Rattle.flat_lists.specs.LookedSequences.{FoundPart, SequenceFound, found_in, numbers, part_kept, sequence_found, sequence_kept, sequence_seen, sequences_found}
 use Rattle.flat_lists.specs.PartTracks.{PartSeen, facts_due, rows_alone, seen_due}
 use Rattle.flat_lists.specs.Written.{first_cell, first_seen, lead_length, part_length, period_seen, periods_seen, reps_seen, sequence_length, sequence_reps as reps_of_sequence}
 use Rattle.flat_lists.specs.declared.looked_sequences.LookedSequence.{LookedSequence}
@@ -229,13 +229,18 @@ module _ (o : Setup) (a : Asking) where
   first_are [] h = refl
   first_are (f ∷ fs) h = sym (found_parts f.timeline f.timeline.parts f.parts a.mapping f.number h.0.found)
 
+  -- the periods over the sequences that are found
+  pub periods_kept : (fs : List SequenceFound) → IsMapping a.mapping → a.window.from < 2 ^ 32 → IfSome a.window.to (λ u. u < 2 ^ 32) → sequences_found o a ≡ Ok fs
+      → periods_due o a (map sequence_view fs) ≡ periods_seen a.mapping g o.settings.align (map (sequence_kept a.mapping) fs)
+  periods_kept fs keeps from to found =
+      let h = all_found keeps from to (numbers o a) fs found in
+      each_period fs h 0 (first_parts o a (map sequence_view fs))
+      ∙ ap (λ (parts : List Part). map (period_seen a.mapping g o.settings.align (map (sequence_kept a.mapping) fs)) (enumerate_from 0 parts)) (first_are fs h)
+
   periods_found : (fs : List SequenceFound) (ss : List LookedSequence) → IsMapping a.mapping → a.window.from < 2 ^ 32 → IfSome a.window.to (λ u. u < 2 ^ 32) → AreFound o a fs ss
       → periods_due o a (map sequence_view fs) ≡ periods_seen a.mapping g o.settings.align (map sequence_seen ss)
   periods_found fs ss keeps from to of =
-      let h = all_found keeps from to (numbers o a) fs of.found in
-      each_period fs h 0 (first_parts o a (map sequence_view fs))
-      ∙ ap (λ (parts : List Part). map (period_seen a.mapping g o.settings.align (map (sequence_kept a.mapping) fs)) (enumerate_from 0 parts)) (first_are fs h)
-      ∙ ap (periods_seen a.mapping g o.settings.align) (sym of.kept)
+      periods_kept fs keeps from to of.found ∙ ap (periods_seen a.mapping g o.settings.align) (sym of.kept)
 
   -- as they are kept, with the settings and the grid of a request
   pub few_due : (fs : List SequenceFound) (ss : List LookedSequence) → IsMapping a.mapping → a.window.from < 2 ^ 32 → IfSome a.window.to (λ u. u < 2 ^ 32) → AreFound o a fs ss

@@ -68,7 +68,7 @@ module _ (t : Timeline) (h : IsTimeline t.pieces t.parts) (part : Part) (m : Map
   audio_seen cs None rows = tt
   audio_seen cs (Some t) rows = record { kind_is = refl; codec = search rules; rows = rows }
 
-  due_seen : (cs : List CheckedPiece) → map (λ (c : CheckedPiece). c.piece) cs ≡ part_pieces t part → IsSeenPart (part_due m sequence cs)
+  pub due_seen : (cs : List CheckedPiece) → map (λ (c : CheckedPiece). c.piece) cs ≡ part_pieces t part → IsSeenPart (part_due m sequence cs)
   due_seen [] of = record { video = tt; audio = tt }
   due_seen (c ∷ cs) of = record {
     video = video_seen (c ∷ cs) (checked_track Video c) (rows_rise Video (c ∷ cs) of);

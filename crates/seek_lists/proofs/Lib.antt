@@ -4,3 +4,10 @@ pub mod ViewLemmas
 pub mod InitLemmas
 pub mod ShownLemmas
 pub mod BandwidthLemmas
+pub mod PartLemmas
+pub mod Tours
+pub mod LookedLemmas
+pub mod SequenceLemmas
+pub mod RepLemmas
+pub mod PeriodLemmas
+pub mod DescriptionLemmas
