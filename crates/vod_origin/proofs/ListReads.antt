@@ -1,6 +1,5 @@
 -- What is read for a media playlist or an I-frame playlist: its turns alone.
-use Rattle.std.proofs.Common.{◌≡◌, ◌≢◌, ℕ, Bool, true, false, List, [], map, Option, Result, Ok, Err, refl, sym, ap, ◌∙◌, subst}
-use Rattle.vod_types.specs.declared.media.Media.{Media}
+use Rattle.std.proofs.Common.{◌≡◌, ◌≢◌, ℕ, Bool, true, false, List, [], map, Option, Result, Ok, Err, refl, sym, subst}
 use Rattle.vod_types.specs.declared.paths.Ask.{Ask}
 use Rattle.vod_types.specs.declared.paths.ByteRange.{ByteRange}
 use Rattle.vod_types.specs.declared.paths.Leaf.{Leaf}

@@ -1,5 +1,5 @@
 -- What is read for a request that is answered by the plain way.
-use Rattle.std.proofs.Common.{◌≡◌, ◌≢◌, ℕ, Bool, true, false, List, [], ◌++◌, Option, None, Result, Ok, Err, refl, sym, ap, ◌∙◌, subst, append-nil}
+use Rattle.std.proofs.Common.{◌≡◌, ℕ, Bool, true, false, List, [], ◌++◌, Option, None, Result, Ok, Err, refl, sym, ap, ◌∙◌, subst, append-nil}
 use Rattle.std.specs.Result.{result_unwrap_or}
 use Rattle.vod_types.specs.declared.media.Media.{Media}
 use Rattle.vod_types.specs.declared.paths.Ask.{Ask}
@@ -7,7 +7,6 @@ use Rattle.vod_types.specs.declared.paths.ByteRange.{ByteRange}
 use Rattle.vod_types.specs.declared.paths.Leaf.{Leaf}
 use Rattle.vod_types.specs.declared.paths.Leaf.TheVariants.{Master, Mpd, Index, Init, Segment, Iframes, Iframe, Clip}
 use Rattle.vod_types.specs.declared.refusal.Refusal.{Refusal}
-use Rattle.vod_types.specs.declared.refusal.Refusal.TheVariants.{NoMemory, StoreFailed}
 use Rattle.vod_types.specs.declared.tracks.Asked.{Asked}
 use Rattle.vod_types.specs.Results.{◌>>=◌}
 use Rattle.vod_source.specs.Stored.{Files, Read}

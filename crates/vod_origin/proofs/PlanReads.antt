@@ -1,6 +1,6 @@
 -- What is read for a segment or a single I-frame: its turns, and its samples by its plan.
-use Rattle.std.proofs.Common.{◌≡◌, ℕ, Bool, true, false, List, [], ◌∷◌, ◌++◌, map, flat_map, Option, None, Some, Result, Ok, Err, refl, sym, ap, ap₂, ◌∙◌, subst, ◌≢◌}
-use Rattle.std.specs.Prelude.{not, if◌then◌else◌, IfSome}
+use Rattle.std.proofs.Common.{◌≡◌, ℕ, Bool, true, false, List, [], ◌∷◌, ◌++◌, map, flat_map, Option, Some, Result, Ok, Err, refl, sym, ap, ap₂, ◌∙◌, subst, ◌≢◌}
+use Rattle.std.specs.Prelude.{IfSome}
 use Rattle.std.specs.Result.{result_unwrap_or}
 use Rattle.std.proofs.lemmas.List.Concat.{flat_map-append}
 use Rattle.vod_types.specs.declared.media.Media.{Media}
@@ -19,7 +19,7 @@ use Rattle.vod_types.specs.SegmentRows.{SegmentRows}
 use Rattle.vod_types.specs.Results.{◌>>=◌}
 use Rattle.clip_model.specs.Timeline.{Timeline}
 use Rattle.list_model.specs.Path.{is_local}
-use Rattle.media_model.specs.WritingOrder.{TrackRow, of_track}
+use Rattle.media_model.specs.WritingOrder.{of_track}
 use Rattle.vod_source.specs.Calls.{Came}
 use Rattle.vod_source.specs.Stored.{Files, Read}
 use Rattle.vod_source.specs.Told.{told_with}
@@ -39,7 +39,7 @@ use Rattle.ts_writer.specs.Progress.{segment_begun}
 use Rattle.vod_plan.specs.Looks.{names_of}
 use Rattle.vod_plan.specs.Planned.{Planned, plan_rows, plan_view}
 use Rattle.vod_plan.specs.Turned.{AreTurns, LeavesCache}
-use Rattle.vod_origin.specs.Begun.{IsFragmentReply, IsPlanReply, IsStreamReply}
+use Rattle.vod_origin.specs.Begun.{IsPlanReply}
 use Rattle.vod_origin.specs.declared.cursor.Cursor.{Cursor}
 use Rattle.vod_origin.specs.declared.cursor.Cursor.TheVariants.{Fragment, Stream}
 use Rattle.vod_origin.specs.declared.wanted.Wanted.{Wanted}

@@ -1,7 +1,6 @@
 -- What is read for a request whose rows are found by seeks.
-use Rattle.std.proofs.Common.{◌≡◌, ◌≢◌, ℕ, ◌≤◌, Bool, true, false, List, [], ◌∷◌, ◌++◌, length, map, flat_map, Option, None, Some, Result, Ok, Err, refl, sym, ap, ◌∙◌, subst, append-nil, append_assoc, arith}
+use Rattle.std.proofs.Common.{◌≡◌, ◌≢◌, ℕ, Bool, true, false, List, [], ◌++◌, length, Option, None, Some, Result, Ok, Err, refl, sym, ap, ◌∙◌, subst, append-nil, append_assoc, arith}
 use Rattle.std.specs.Prelude.{not, if◌then◌else◌, IfSome}
-use Rattle.std.specs.List.{items_where_true}
 use Rattle.std.specs.Result.{result_unwrap_or}
 use Rattle.std.proofs.Math.Seq.{take-length}
 use Rattle.vod_types.specs.declared.media.Media.{Media}
@@ -13,19 +12,17 @@ use Rattle.vod_types.specs.declared.refusal.Refusal.TheVariants.{NoMemory, Store
 use Rattle.vod_types.specs.Results.{◌>>=◌}
 use Rattle.clip_model.specs.Timeline.{Timeline}
 use Rattle.list_model.specs.Path.{is_local}
-use Rattle.vod_source.specs.Calls.{LogsReads}
 use Rattle.vod_source.specs.Stored.{Files, Read}
-use Rattle.vod_source.specs.Told.{told_with, GrewByPrefix}
+use Rattle.vod_source.specs.Told.{told_with}
 use Rattle.vod_source.proofs.CallLemmas.{LogsErr, logs_ended, logs_then}
 use Rattle.vod_source.proofs.ToldLemmas.{GrewByPrefix-same, GrewByPrefix-whole, GrewByPrefix-front, told_with-more}
-use Rattle.vod_http.specs.declared.answerer.Reply.{Reply}
 use Rattle.vod_http.specs.declared.answerer.Reply.TheVariants.{Body, Refused}
 use Rattle.origin_model.specs.Plans.{Cutting}
 use Rattle.origin_model.specs.Reads.{Cache, Looks, ask_reads, further_names, looks_of, mapping_reads_by, names_taken, no_looks, ranged_reads, turn_names, turns}
 use Rattle.origin_model.specs.Requests.{Setup, Asking, asking_of, timeline_asked}
 use Rattle.vod_plan.specs.Turned.{AreTurns, LeavesCache, LeftByFirst}
 use Rattle.vod_origin.specs.declared.cursor.Cursor.{Cursor}
-use Rattle.vod_origin.specs.Reads.{LogsReply, ReadsFor, ReadsForAsk, asked_names, asked_reads, is_sought, outcome_of, reads_to_come}
+use Rattle.vod_origin.specs.Reads.{ReadsForAsk, asked_names, asked_reads, is_sought, reads_to_come}
 use Rattle.vod_origin.specs.Wanted.{cut_due, cut_of}
 use Rattle.vod_origin.proofs.WantedLemmas.{cut_with}
 

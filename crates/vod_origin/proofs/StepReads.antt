@@ -1,9 +1,9 @@
 -- What one step of a body reads.
-use Rattle.std.proofs.Common.{◌≡◌, ℕ, Bool, true, false, List, [], ◌∷◌, ◌++◌, length, take, drop, flat_map, Option, Some, None, IfSome, IsTrue, refl, sym, ap, ◌∙◌, subst, arith, append-nil, ◌-◌}
+use Rattle.std.proofs.Common.{◌≡◌, ℕ, List, [], ◌∷◌, ◌++◌, length, take, drop, flat_map, Option, Some, None, IfSome, IsTrue, refl, sym, ap, ◌∙◌, arith, append-nil, ◌-◌}
 use Rattle.std.proofs.lemmas.List.{take-append-drop}
 use Rattle.std.proofs.lemmas.List.Concat.{flat_map-append}
 use Rattle.vod_types.specs.declared.segments.Row.{Row}
-use Rattle.vod_types.specs.SegmentRows.{Places, SegmentRows, moved}
+use Rattle.vod_types.specs.SegmentRows.{Places, SegmentRows}
 use Rattle.vod_source.specs.declared.step.Step.{Step}
 use Rattle.vod_source.specs.declared.step.Step.TheVariants.{Again, Whole, BadNal, StoreFailed, SinkFailed}
 use Rattle.vod_source.specs.Stored.{Files, Read}
@@ -13,16 +13,14 @@ use Rattle.fmp4_writer.specs.declared.writing.Progress.{Progress}
 use Rattle.fmp4_writer.specs.declared.writing.Progress.TheVariants.{Front, Samples, Ended}
 use Rattle.fmp4_writer.specs.Progress as fragments
 use Rattle.fmp4_writer.specs.Progress.{left_after, next_reads, places_left, progress_after}
-use Rattle.fmp4_writer.specs.Samples.{next_kind, row_reads, samples_left}
+use Rattle.fmp4_writer.specs.Samples.{row_reads, samples_left}
 use Rattle.fmp4_writer.proofs.SamplesLemmas.{length-samples_at, length-samples_moved, samples_left-moved}
 use Rattle.fmp4_writer.proofs.StepLemmas as fragment_steps
-use Rattle.media_model.specs.WritingOrder.{TrackRow}
 use Rattle.ts_writer.specs.Conditions as streams
 use Rattle.ts_writer.specs.Progress as streams_to_come
 use Rattle.ts_writer.proofs.WholeLemmas as stream_steps
 use Rattle.vod_plan.specs.Planned.{plan_rows}
-use Rattle.vod_origin.specs.declared.cursor.Cursor.{Cursor}
-use Rattle.vod_origin.specs.declared.cursor.Cursor.TheVariants.{Made, Fragment, Stream}
+use Rattle.vod_origin.specs.declared.cursor.Cursor.TheVariants.{Fragment, Stream}
 use Rattle.vod_origin.specs.declared.cursor.FragmentBody.{FragmentBody}
 use Rattle.vod_origin.specs.declared.cursor.StreamBody.{StreamBody}
 use Rattle.vod_origin.specs.Reads.{LogsStep, reads_left}
