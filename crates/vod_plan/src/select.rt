@@ -21,11 +21,7 @@ use vod_types::{Kind, Steps};
 
 /// The selected rows of a piece, each asked track's by their numbers: those of the lead track, which is the video where there
 /// is one, from its first sync row in the piece on, and those of the other from the time of that row on.
-pub(crate) fn selected<L: Ledger>(
-    piece: &Piece,
-    tracks: CheckedTracks,
-    steps: &mut Steps<L>,
-) -> PlanPiece
+pub fn selected<L: Ledger>(piece: &Piece, tracks: CheckedTracks, steps: &mut Steps<L>) -> PlanPiece
     requires piece { IsPiece piece.now }
     requires named { (rc_value tracks.meta).name ≡ piece.now.name }
     requires found { AreFound tracks }

@@ -18,17 +18,17 @@ use vod_types::{Asked, Kind, Name, Refusal, TrackName};
 
 /// A track of a file that is asked, with its edit: none where edits aren't honoured.
 #[derive(Clone, Copy, Debug)]
-pub(crate) struct AskedTrack {
-    pub(crate) track: TrackName,
-    pub(crate) edit: Edit,
+pub struct AskedTrack {
+    pub track: TrackName,
+    pub edit: Edit,
 }
 
 /// The asked tracks of a piece, each without a fault, and the metadata of its file.
 #[derive(Debug, Drop)]
-pub(crate) struct CheckedTracks {
-    pub(crate) meta: Rc<Meta>,
-    pub(crate) video: Option<AskedTrack>,
-    pub(crate) audio: Option<AskedTrack>,
+pub struct CheckedTracks {
+    pub meta: Rc<Meta>,
+    pub video: Option<AskedTrack>,
+    pub audio: Option<AskedTrack>,
 }
 
 /// The tracks that a piece exposes under the asked names, video first, in the metadata of its file.
@@ -36,7 +36,7 @@ pub(crate) struct CheckedTracks {
 /// Refused with the first fault: `NoTrack` where it exposes no such track, and else the track's first fault, by the name
 /// that was asked and the places of the file. That of a track's edit, which counts where `edits` are honoured, comes after its
 /// others.
-pub(crate) fn check(
+pub fn check(
     alloc: Global,
     piece: &Piece,
     meta: Rc<Meta>,
