@@ -19,7 +19,7 @@ use vod_types::{Kind, Steps};
 
 /// How many rows of a kind stand in a piece before the first that isn't before a time of the output and, with alignment, is
 /// a sync row: all of them where there is no such row.
-pub(crate) fn rows_before<L: Ledger>(
+pub fn rows_before<L: Ledger>(
     piece: &PlanPiece,
     kind: Kind,
     align: bool,
@@ -45,12 +45,7 @@ pub(crate) fn rows_before<L: Ledger>(
 }
 
 /// The time in the output of the row of a kind with this index among those of the piece.
-pub(crate) fn time_at<L: Ledger>(
-    piece: &PlanPiece,
-    kind: Kind,
-    index: u32,
-    steps: &mut Steps<L>,
-) -> i64
+pub fn time_at<L: Ledger>(piece: &PlanPiece, kind: Kind, index: u32, steps: &mut Steps<L>) -> i64
     requires piece { IsPlanPiece piece.now }
     requires within { index < rows_in kind (piece_view piece.now) }
     ensures time { (file : ℕ) (r : RowRange) (row : TimedRow) → range_of kind (piece_view piece.now) ≡ Some r →
@@ -63,7 +58,7 @@ pub(crate) fn time_at<L: Ledger>(
 }
 
 /// Where the last row of a kind of a piece ends in the output.
-pub(crate) fn end_of_rows<L: Ledger>(piece: &PlanPiece, kind: Kind, steps: &mut Steps<L>) -> i64
+pub fn end_of_rows<L: Ledger>(piece: &PlanPiece, kind: Kind, steps: &mut Steps<L>) -> i64
     requires piece { IsPlanPiece piece.now }
     requires some { 1 ≤ rows_in kind (piece_view piece.now) }
     ensures end { (file start : ℕ) (r : RowRange) → range_of kind (piece_view piece.now) ≡ Some r →
@@ -78,12 +73,7 @@ pub(crate) fn end_of_rows<L: Ledger>(piece: &PlanPiece, kind: Kind, steps: &mut 
 }
 
 /// The first row of a piece's track of a kind that isn't before a time of the file, or the number of its rows.
-pub(crate) fn found_at<L: Ledger>(
-    piece: &PlanPiece,
-    kind: Kind,
-    time: i64,
-    steps: &mut Steps<L>,
-) -> u32
+pub fn found_at<L: Ledger>(piece: &PlanPiece, kind: Kind, time: i64, steps: &mut Steps<L>) -> u32
     requires piece { IsPlanPiece piece.now }
     requires some { IsSome (range_of kind (piece_view piece.now)) }
     requires time { unsigned_abs time ≤ 2 ^ 62 }
@@ -100,7 +90,7 @@ pub(crate) fn found_at<L: Ledger>(
 }
 
 /// The first row of its track that the edit keeps.
-pub(crate) fn first_kept<L: Ledger>(piece: &PlanPiece, kind: Kind, steps: &mut Steps<L>) -> u32
+pub fn first_kept<L: Ledger>(piece: &PlanPiece, kind: Kind, steps: &mut Steps<L>) -> u32
     requires piece { IsPlanPiece piece.now }
     requires some { IsSome (range_of kind (piece_view piece.now)) }
     ensures value { (r : RowRange) → range_of kind (piece_view piece.now) ≡ Some r → result ≡ first_kept kind r }
@@ -122,7 +112,7 @@ fn first_from<L: Ledger>(piece: &PlanPiece, kind: Kind, time: i64, steps: &mut S
 }
 
 /// The same row, or with alignment the first sync row from it on, or the number of rows.
-pub(crate) fn aligned<L: Ledger>(
+pub fn aligned<L: Ledger>(
     piece: &PlanPiece,
     kind: Kind,
     align: bool,
@@ -142,12 +132,7 @@ pub(crate) fn aligned<L: Ledger>(
 }
 
 /// Where a row stands in the time of the file.
-pub(crate) fn place_at<L: Ledger>(
-    piece: &PlanPiece,
-    kind: Kind,
-    row: u32,
-    steps: &mut Steps<L>,
-) -> i64
+pub fn place_at<L: Ledger>(piece: &PlanPiece, kind: Kind, row: u32, steps: &mut Steps<L>) -> i64
     requires piece { IsPlanPiece piece.now }
     requires some { IsSome (range_of kind (piece_view piece.now)) }
     requires within { (r : RowRange) → range_of kind (piece_view piece.now) ≡ Some r → row ≤ sample_count r.track.tables }

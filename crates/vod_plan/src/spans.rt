@@ -35,7 +35,7 @@ pub struct PlanPiece {
 
 impl PlanPiece {
     /// The rows of a kind by their numbers.
-    pub(crate) fn span(&self, kind: Kind) -> Option<RowSpan>
+    pub fn span(&self, kind: Kind) -> Option<RowSpan>
         ensures { result ≡ span_of kind self.now }
     {
         match kind {
@@ -45,7 +45,7 @@ impl PlanPiece {
     }
 
     /// How many rows of a kind it has.
-    pub(crate) fn rows(&self, kind: Kind) -> u32
+    pub fn rows(&self, kind: Kind) -> u32
         requires { IsPlanPiece self.now }
         ensures { result ≡ rows_in kind (piece_view self.now) }
     {
@@ -56,7 +56,7 @@ impl PlanPiece {
     }
 
     /// Whether it has a range of a kind.
-    pub(crate) fn has(&self, kind: Kind) -> bool
+    pub fn has(&self, kind: Kind) -> bool
         requires { IsPlanPiece self.now }
         ensures { result ≡ is_some (range_of kind (piece_view self.now)) }
     {
@@ -64,7 +64,7 @@ impl PlanPiece {
     }
 
     /// The span of a kind that has rows.
-    pub(crate) fn range(&self, kind: Kind) -> RowSpan
+    pub fn range(&self, kind: Kind) -> RowSpan
         requires some { IsSome (range_of kind (piece_view self.now)) }
         ensures span { span_of kind self.now ≡ Some result }
         ensures from { (r : RowRange) → range_of kind (piece_view self.now) ≡ Some r → result.from ≡ r.from }
@@ -75,7 +75,7 @@ impl PlanPiece {
     }
 
     /// The timescale of its track of a kind.
-    pub(crate) fn timescale(&self, kind: Kind) -> u32
+    pub fn timescale(&self, kind: Kind) -> u32
         requires some { IsSome (range_of kind (piece_view self.now)) }
         ensures { (r : RowRange) → range_of kind (piece_view self.now) ≡ Some r → result ≡ r.track.timescale }
     {
@@ -86,7 +86,7 @@ impl PlanPiece {
     }
 
     /// The number of rows of its track of a kind.
-    pub(crate) fn samples(&self, kind: Kind) -> u32
+    pub fn samples(&self, kind: Kind) -> u32
         requires some { IsSome (range_of kind (piece_view self.now)) }
         ensures { (r : RowRange) → range_of kind (piece_view self.now) ≡ Some r → result ≡ sample_count r.track.tables }
     {
@@ -97,7 +97,7 @@ impl PlanPiece {
     }
 
     /// The times of its track of a kind.
-    pub(crate) fn times(&self, kind: Kind) -> TimeRuns<'_>
+    pub fn times(&self, kind: Kind) -> TimeRuns<'_>
         requires some { IsSome (range_of kind (piece_view self.now)) }
         ensures { (r : RowRange) → range_of kind (piece_view self.now) ≡ Some r → result ≡ times_of r.track }
     {
@@ -105,7 +105,7 @@ impl PlanPiece {
     }
 
     /// The places of its track of a kind.
-    pub(crate) fn places(&self, kind: Kind) -> ChunkRuns<'_>
+    pub fn places(&self, kind: Kind) -> ChunkRuns<'_>
         requires some { IsSome (range_of kind (piece_view self.now)) }
         ensures { (r : RowRange) → range_of kind (piece_view self.now) ≡ Some r → result ≡ places_of r.track }
     {
@@ -113,7 +113,7 @@ impl PlanPiece {
     }
 
     /// The configuration of its track of a kind, and nothing where it has no rows of it.
-    pub(crate) fn config(&self, kind: Kind) -> &[u8]
+    pub fn config(&self, kind: Kind) -> &[u8]
         ensures { result.now ≡ option_map_or (λ r. r.track.config) (range_of kind (piece_view self.now)) [] }
     {
         let Some(span) = self.span(kind) else {
