@@ -5,13 +5,13 @@ usage: bench/load.py [PROGRAM]
 
 PROGRAM is the built vodpack, by default crates/vodpack/out/vodpack. ffmpeg makes a minute of small pictures at 25 a second, two of three
 out of order, and of audio at 48000, and joins sixty of it to one film of some 35 MB: 90,000 pictures, 168,840 samples of audio and a
-movie box of some 2.5 MB, in a folder that is removed again. An initialization segment is all metadata: `get` of init-c1-f1-v1.mp4
-reads the movie box, checks its tables and writes less than a kilobyte. Its processor time, user and system, is the least of several
-runs, less the least of a run with no words, which writes the usage line. dd copies the movie box in pieces of 65,536 bytes to
-/dev/null, and its time is taken likewise, less that of a dd of no bytes. All is measured by turns, and the files are in the page cache.
+movie box of some 2.5 MB, in a folder that is removed again. `get` of a segment behind the last one loads the metadata of the film by
+`vod_meta::load` (it reads the movie box, checks the tables of all tracks and puts down their indexes), finds with a few looks that there
+is no such segment, and ends refused, with status 2. Its processor time, user and system, is the least of several runs, less the least of
+a run with no words, which writes the usage line. dd copies the movie box in pieces of 65,536 bytes to /dev/null, and its time is taken
+likewise, less that of a dd of no bytes. All is measured by turns, and the files are in the page cache.
 
-This is the time of the plain way, as `get` goes it: it writes tables out where it must. `vod_meta::load` has no command of its own. The
-aim for loading metadata is at most 5 times dd; the status is 0 where it is met, or where there is no ffmpeg with libx264 and aac.
+The aim for loading metadata is at most 5 times dd; the status is 0 where it is met, or where there is no ffmpeg with libx264 and aac.
 """
 import os
 import shutil
@@ -21,7 +21,7 @@ import tempfile
 
 AIM = 5
 RUNS = 20
-PATH = "/local/dash/hour.mp4/init-c1-f1-v1.mp4"
+PATH = "/local/dash/hour.mp4/fragment-99999-v1.m4s"
 MINUTE = [
     *("-f", "lavfi", "-i", "testsrc=size=128x72:rate=25:duration=60", "-f", "lavfi", "-i", "sine=frequency=440:sample_rate=48000:duration=60"),
     *("-c:v", "libx264", "-preset", "ultrafast", "-bf", "2", "-g", "50", "-pix_fmt", "yuv420p", "-c:a", "aac", "-b:a", "32k", "minute.mp4"),
@@ -85,7 +85,7 @@ def main():
         print(f"film {len(film)} bytes, movie box {end - start} bytes, {' and '.join(map(str, counts))} samples")
         copy = ["dd", "if=hour.mp4", "of=/dev/null", "bs=64k", "iflag=count_bytes,skip_bytes", f"skip={start}"]
         commands = [
-            ([program, "get", ".", "-", PATH], 0),
+            ([program, "get", ".", "-", PATH], 2),
             ([program], 1),
             ([*copy, f"count={end - start}"], 0),
             ([*copy, "count=0"], 0),

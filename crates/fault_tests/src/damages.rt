@@ -12,7 +12,7 @@ use vod_source::{HoleStore, Logged};
 use vod_types::{Kind, Name};
 
 // Of the film of `TWO_SAMPLES`.
-const AUDIO_DAMAGES: [Damage; 25] = [
+const AUDIO_DAMAGES: [Damage; 26] = [
     // The first top box has 7 bytes, then none is `moov`.
     (b"ftyp", 0, b"\0\0\0\x07", "refused 21 BadBox"),
     (b"moov", 4, b"free", "refused 22 NoMovie"),
@@ -31,10 +31,11 @@ const AUDIO_DAMAGES: [Damage; 25] = [
     (b"stsc", 4, b"free", "refused 24 BadTable"),
     (b"stsz", 4, b"free", "refused 24 BadTable"),
     (b"stco", 4, b"free", "refused 24 BadTable"),
-    // A timescale of 0, a count of runs that has no room, and one of 3 samples; a first chunk 2, and a description 2.
+    // A timescale of 0, a count of runs that has no room, and runs of 3 samples and of none; a first chunk 2, and a description 2.
     (b"mdhd", 20, b"\0\0\0\0", "refused 24 BadTable"),
     (b"stts", 12, b"\0\0\0\x03", "refused 24 BadTable"),
     (b"stts", 16, b"\0\0\0\x03", "refused 24 BadTable"),
+    (b"stts", 16, b"\0\0\0\0", "refused 24 BadTable"),
     (b"stsc", 16, b"\0\0\0\x02", "refused 24 BadTable"),
     (b"stsc", 24, b"\0\0\0\x02", "refused 24 BadTable"),
     (b"stsz", 16, b"\0\0\0\x01", "refused 24 BadTable"),
