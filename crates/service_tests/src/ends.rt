@@ -7,7 +7,8 @@ use vod_app::{Ended, run};
 use vod_films::films;
 use vod_source::{MemDoor, MemSink, MemStore};
 
-// Words, how many bytes have room, the status, and how many bytes are written. A body is put in one call, and so is a plan.
+// Words, how many bytes have room, the status, and how many bytes are written. The last sample of the segment, of 20 bytes, is put
+// in one call, and so is a plan.
 const ROOMS: [(&str, usize, u8, usize); 5] = [
     (
         "get /r - /local/dash/two.mp4/fragment-1-a1.m4s",
@@ -15,7 +16,12 @@ const ROOMS: [(&str, usize, u8, usize); 5] = [
         0,
         182,
     ),
-    ("get /r - /local/dash/two.mp4/fragment-1-a1.m4s", 181, 4, 0),
+    (
+        "get /r - /local/dash/two.mp4/fragment-1-a1.m4s",
+        181,
+        4,
+        162,
+    ),
     ("plan /r - /local/hls/ntsc.mp4/index-f1-v1.m3u8", 17, 0, 17),
     ("plan /r - /local/hls/ntsc.mp4/index-f1-v1.m3u8", 16, 4, 0),
     ("reads /r - /local/dash/gone.mp4/fragment-1-a1.m4s", 0, 2, 0),
