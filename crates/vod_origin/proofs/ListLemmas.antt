@@ -17,9 +17,10 @@ use Rattle.origin_model.specs.Answers.{ask_answer, leaf_answer, ranged_answer, s
 use Rattle.origin_model.specs.Iframes.{planned_iframes}
 use Rattle.origin_model.specs.Lists.{listed_segments}
 use Rattle.origin_model.specs.Plans.{Cutting, planned_rows}
-use Rattle.origin_model.specs.Requests.{Asking, Setup, asking_of, cutting, timeline_asked}
-use Rattle.vod_origin.specs.Wanted.{cut_due, cut_of}
-use Rattle.vod_origin.proofs.WantedLemmas.{cut_with}
+use Rattle.origin_model.specs.Requests.{Asking, Setup, cutting, timeline_asked}
+use Rattle.vod_origin.specs.Wanted.{cut_due}
+use Rattle.vod_origin.proofs.FoundAnswers.{answer_shown, answer_undue, answer_unfound}
+use Rattle.vod_origin.proofs.WantedLemmas.{cut_in, cut_with}
 
 -- the rows as they stand in the list
 rows_shown : (ls : List Listed) → map (λ (l : ListedSegment). l.0) (map listed_view ls) ≡ map (λ (l : Listed). l.row) ls
@@ -32,29 +33,21 @@ module _ {R : Type 0} (due : Cutting → Timeline → Result (List R) Refusal) (
   abbrev rows_of : Timeline × Cutting → Result (List R) Refusal
   rows_of s = due s.1 s.0
 
-  abbrev shown : Result (Timeline × Cutting) Refusal → Answer
-  shown r = r >>= rows_of >>= text_with
-
-  by_timeline : (a : Asking) (r : Result Timeline Refusal) → (r >>= due (cutting o a) >>= text_with) ≡ shown (r >>= cut_with o a)
+  by_timeline : (a : Asking) (r : Result Timeline Refusal) → (r >>= due (cutting o a) >>= text_with) ≡ (r >>= cut_with o a >>= rows_of >>= text_with)
   by_timeline a (Ok t) = refl
   by_timeline a (Err e) = refl
 
-  answer_is : ask_answer o None ask ≡ shown (cut_due o ask sequence)
-  unfolding ask_answer
-  answer_is = by_asking (asking_of o ask)
-    where
-      by_asking : (r : Result Asking Refusal) → (r >>= λ a. ranged_answer o a None ask.leaf) ≡ shown (r >>= λ a. cut_of o a sequence)
-      by_asking (Ok a) = leaf_is a ∙ by_timeline a (timeline_asked o a sequence)
-      by_asking (Err e) = refl
+  leaf_found : (a : Asking) → ranged_answer o a None ask.leaf ≡ (cut_in o sequence a >>= rows_of >>= text_with)
+  leaf_found a = leaf_is a ∙ by_timeline a (timeline_asked o a sequence)
 
   no_timeline : (e : Refusal) → cut_due o ask sequence ≡ Err e → ask_answer o None ask ≡ Err e
-  no_timeline e is = answer_is ∙ ap shown is
+  no_timeline = answer_unfound o ask (cut_in o sequence) rows_of text_with leaf_found
 
   no_rows : (t : Timeline) (c : Cutting) (e : Refusal) → cut_due o ask sequence ≡ Ok (t, c) → due c t ≡ Err e → ask_answer o None ask ≡ Err e
-  no_rows t c e is none = answer_is ∙ ap shown is ∙ ap (λ (r : Result (List R) Refusal). r >>= text_with) none
+  no_rows t c = answer_undue o ask (cut_in o sequence) rows_of text_with leaf_found (t, c)
 
   with_rows : (t : Timeline) (c : Cutting) (rows : List R) → cut_due o ask sequence ≡ Ok (t, c) → due c t ≡ Ok rows → ask_answer o None ask ≡ text_with rows
-  with_rows t c rows is some = answer_is ∙ ap shown is ∙ ap (λ (r : Result (List R) Refusal). r >>= text_with) some
+  with_rows t c = answer_shown o ask (cut_in o sequence) rows_of text_with leaf_found (t, c)
 
 -- ---- media playlists
 

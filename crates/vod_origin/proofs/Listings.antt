@@ -25,7 +25,8 @@ use Rattle.vod_plan.specs.Turned.{AreTurns, LeavesCache}
 use Rattle.vod_origin.specs.Listings.{ListsAsk, ListsPath, listed_names}
 use Rattle.vod_origin.specs.Reads.{asked_names, asked_reads}
 use Rattle.vod_origin.specs.Wanted.{cut_due, cut_of}
-use Rattle.vod_origin.proofs.ListReads.{index_looked, names_in, none_in, reads_of_refused, reads_of_untimed}
+use Rattle.vod_origin.proofs.ListReads.{index_looked, names_in}
+use Rattle.vod_origin.proofs.MadeReads.{none_in, reads_of_refused, reads_of_unfound}
 use Rattle.vod_origin.proofs.SoughtReads.{left_by_none, reads_found, turns_none}
 use Rattle.vod_origin.proofs.WantedLemmas.{cut_with}
 
@@ -59,7 +60,7 @@ module _ {X : Type 0} (view : X → List ListedSegment) (o : Setup) (ask : Ask) 
   pub rows_untimed : (cache : Cache) (log log_now : Option (List Read)) (e : Refusal) → (e ≢ NoMemory → e ≢ StoreFailed → cut_due o ask sequence ≡ Err e)
       → LogsErr e (mapping_reads_by o (is_local ask.place) ask.target) log log_now → ListsAsk view o ask sequence asked (Err e) cache cache log log_now
   rows_untimed cache log log_now e due logged =
-      let read = reads_of_untimed o true None ask sequence asked (index_looked o ask.leaf sequence asked leaf_is) cache log log_now e due logged in
+      let read = reads_of_unfound o true None ask (index_looked o ask.leaf sequence asked leaf_is) cache log log_now e due logged in
       record {
         answered = λ known_memory known_store. rows_are ∙ ap (λ (r : Result (Timeline × Cutting) Refusal). r >>= rows_of) (due known_memory known_store);
         logged = subst (λ (reads : List Read). LogsErr e reads log log_now) (reads_same cache) read.logged;
@@ -75,14 +76,14 @@ module _ {X : Type 0} (view : X → List ListedSegment) (o : Setup) (ask : Ask) 
     pub rows_listed : (result : Result X Refusal) → AnswersUnlessFailed view result (rows_of s) → AreTurns o.files (names_in asked s) result cache cache_now log_cut log_now
         → ListsAsk view o ask sequence asked result cache cache_now log log_now
     rows_listed (Ok x) due turned =
-        let read = reads_found (names_in asked) none_in o None ask sequence (index_looked o ask.leaf sequence asked leaf_is) s timed true cache cache_now log log_cut log_now cut x turned refl in
+        let read = reads_found (names_in asked) none_in o None ask _ (index_looked o ask.leaf sequence asked leaf_is) s timed true cache cache_now log log_cut log_now cut x turned refl in
         record {
           answered = rows_due ∙ due;
           logged = read.0 ∙ ap (told_with log) (reads_same cache);
           leaves = read.1 ∙ ap (λ (names : List (List ℕ)). (turns o.files cache names).cache) names_same;
         }
     rows_listed (Err e) due turned =
-        let read = reads_of_refused o true None ask sequence asked (index_looked o ask.leaf sequence asked leaf_is) s timed cache cache_now log log_cut log_now cut {X = X} e turned in
+        let read = reads_of_refused o true None ask (index_looked o ask.leaf sequence asked leaf_is) s timed cache cache_now log log_cut log_now cut {X = X} e turned in
         record {
           answered = λ known_memory known_store. rows_due ∙ due known_memory known_store;
           logged = subst (λ (reads : List Read). LogsErr e reads log log_now) (reads_same cache) read.logged;

@@ -46,8 +46,8 @@ use Rattle.vod_origin.specs.declared.wanted.Wanted.{Wanted}
 use Rattle.vod_origin.specs.declared.wanted.Wanted.TheVariants as wants
 use Rattle.vod_origin.specs.Reads.{ReadsForAsk, is_sought, reads_left, reads_to_come}
 use Rattle.vod_origin.specs.Wanted.{asked_of, cut_due, form_of, leaf_of, number_of, plan_due, plan_names, plan_of}
-use Rattle.vod_origin.proofs.SoughtReads.{LooksSo, names_by, reads_begun, reads_refused, reads_unmade, reads_untimed, samples_by, samples_read}
-use Rattle.vod_origin.proofs.WantedLemmas.{cut_with}
+use Rattle.vod_origin.proofs.SoughtReads.{LooksSo, names_by, reads_begun, reads_refused, reads_unfound, reads_unmade, samples_by, samples_read}
+use Rattle.vod_origin.proofs.WantedLemmas.{cut_in, cut_with}
 
 -- ---- what is looked at
 
@@ -107,7 +107,7 @@ module _ (o : Setup) (w : Wanted) (sequence : ℕ) where
   is_sought_wanted (wants.Segment number asked form) = refl
   is_sought_wanted (wants.Iframe number index video) = refl
 
-  pub wanted_looks : LooksSo (names_in o.files w) (samples_in o.files w) o (leaf_of sequence w) sequence
+  pub wanted_looks : LooksSo (names_in o.files w) (samples_in o.files w) o (cut_in o sequence) (leaf_of sequence w)
   wanted_looks = record { sought = is_sought_wanted w; turns = turned; further = none_further; samples = sampled }
 
 -- ---- samples
@@ -132,19 +132,19 @@ module _ (files : Files) (w : Wanted) (plan : Planned) where
 -- ---- replies
 
 module _ (o : Setup) (range : Option ByteRange) (ask : Ask) (sequence : ℕ) (w : Wanted) (leaf_is : ask.leaf ≡ leaf_of sequence w) where
-  looked : LooksSo (names_in o.files w) (samples_in o.files w) o ask.leaf sequence
-  looked = subst (λ (leaf : Leaf). LooksSo (names_in o.files w) (samples_in o.files w) o leaf sequence) (sym leaf_is) (wanted_looks o w sequence)
+  looked : LooksSo (names_in o.files w) (samples_in o.files w) o (cut_in o sequence) ask.leaf
+  looked = subst (λ (leaf : Leaf). LooksSo (names_in o.files w) (samples_in o.files w) o (cut_in o sequence) leaf) (sym leaf_is) (wanted_looks o w sequence)
 
   pub plan_untimed : (head_only : Bool) (cache : Cache) (log log_now : Option (List Read)) (e : Refusal) → (e ≢ NoMemory → e ≢ StoreFailed → cut_due o ask sequence ≡ Err e)
       → LogsErr e (mapping_reads_by o (is_local ask.place) ask.target) log log_now → ReadsForAsk o head_only range ask (Refused e) cache cache log log_now
-  plan_untimed = reads_untimed (names_in o.files w) (samples_in o.files w) o range ask sequence looked
+  plan_untimed = reads_unfound (names_in o.files w) (samples_in o.files w) o range ask (cut_in o sequence) looked
 
   module _ (s : Timeline × Cutting) (timed : cut_due o ask sequence ≡ Ok s) (head_only : Bool) (cache cache_now : Cache) (log log_cut log_now : Option (List Read))
       (cut : log_cut ≡ told_with log (mapping_reads_by o (is_local ask.place) ask.target)) where
     pub plan_refused : {X : Type 0} (e : Refusal) → (e ≢ NoMemory → e ≢ StoreFailed → plan_of w s ≡ Err e)
         → AreTurns {X = X} o.files (names_in o.files w s) (Err e) cache cache_now log_cut log_now → ReadsForAsk o head_only range ask (Refused e) cache cache_now log log_now
     plan_refused {X} e due =
-        reads_refused (names_in o.files w) (samples_in o.files w) o range ask sequence looked s timed head_only cache cache_now log log_cut log_now cut {X = X} e
+        reads_refused (names_in o.files w) (samples_in o.files w) o range ask (cut_in o sequence) looked s timed head_only cache cache_now log log_cut log_now cut {X = X} e
         (λ known_memory known_store. ap (due_reads o.files w) (due known_memory known_store))
 
     module _ {X : Type 0} (x : X) (plan : Planned) (due : plan_of w s ≡ Ok (plan_view plan)) (turned : AreTurns o.files (names_in o.files w s) (Ok x) cache cache_now log_cut log_now) where
@@ -154,11 +154,11 @@ module _ (o : Setup) (range : Option ByteRange) (ask : Ask) (sequence : ℕ) (w 
       begun : (kind : Media) (n : Option ℕ) (part : Option (ℕ × ℕ × ℕ)) (cursor : Cursor) → reads_to_come o.files head_only cursor ≡ samples_read head_only (plan_reads o.files w (plan_view plan))
           → For (Body kind n part cursor)
       begun kind n part cursor left =
-          reads_begun (names_in o.files w) (samples_in o.files w) o range ask sequence looked s timed head_only cache cache_now log log_cut log_now cut x turned kind n part cursor
+          reads_begun (names_in o.files w) (samples_in o.files w) o range ask (cut_in o sequence) looked s timed head_only cache cache_now log log_cut log_now cut x turned kind n part cursor
           (left ∙ ap (λ (r : Result SegmentPlan Refusal). samples_read head_only (due_reads o.files w r)) (sym due))
 
       memory : (e : Refusal) → e ≡ NoMemory → For (Refused e)
-      memory = reads_unmade (names_in o.files w) (samples_in o.files w) o range ask sequence looked s timed head_only cache cache_now log log_cut log_now cut x turned
+      memory = reads_unmade (names_in o.files w) (samples_in o.files w) o range ask (cut_in o sequence) looked s timed head_only cache cache_now log log_cut log_now cut x turned
 
       to_come : (cursor : Cursor) (form : Form) → form_of w ≡ form → (head_only ≡ false → reads_left o.files cursor ≡ body_reads o.files (plan_view plan) form)
           → reads_to_come o.files head_only cursor ≡ samples_read head_only (plan_reads o.files w (plan_view plan))

@@ -10,21 +10,17 @@ use Rattle.vod_types.specs.declared.paths.Leaf.{Leaf}
 use Rattle.vod_types.specs.declared.refusal.Refusal.{Refusal}
 use Rattle.vod_types.specs.declared.refusal.Refusal.TheVariants.{NoMemory, StoreFailed}
 use Rattle.vod_types.specs.Results.{◌>>=◌}
-use Rattle.clip_model.specs.Timeline.{Timeline}
 use Rattle.list_model.specs.Path.{is_local}
 use Rattle.vod_source.specs.Stored.{Files, Read}
 use Rattle.vod_source.specs.Told.{told_with}
 use Rattle.vod_source.proofs.CallLemmas.{LogsErr, logs_ended, logs_then}
 use Rattle.vod_source.proofs.ToldLemmas.{GrewByPrefix-same, GrewByPrefix-whole, GrewByPrefix-front, told_with-more}
 use Rattle.vod_http.specs.declared.answerer.Reply.TheVariants.{Body, Refused}
-use Rattle.origin_model.specs.Plans.{Cutting}
 use Rattle.origin_model.specs.Reads.{Cache, Looks, ask_reads, further_names, looks_of, mapping_reads_by, names_taken, no_looks, ranged_reads, turn_names, turns}
-use Rattle.origin_model.specs.Requests.{Setup, Asking, asking_of, timeline_asked}
+use Rattle.origin_model.specs.Requests.{Setup, Asking, asking_of}
 use Rattle.vod_plan.specs.Turned.{AreTurns, LeavesCache, LeftByFirst}
 use Rattle.vod_origin.specs.declared.cursor.Cursor.{Cursor}
-use Rattle.vod_origin.specs.Reads.{ReadsForAsk, asked_names, asked_reads, is_sought, reads_to_come}
-use Rattle.vod_origin.specs.Wanted.{cut_due, cut_of}
-use Rattle.vod_origin.proofs.WantedLemmas.{cut_with}
+use Rattle.vod_origin.specs.Reads.{LogsReply, ReadsFor, ReadsForAsk, asked_names, asked_reads, is_sought, outcome_of, reads_to_come}
 
 -- ---- values that may be told
 
@@ -54,15 +50,15 @@ turns_unbegun files names e cache now log is none empty = record {
   cache = ((0, omega arith, empty ∙ sym (turns_none files cache ∙ none)), λ known_memory known_store. absurd (known_memory is));
 }
 
--- ---- what is looked at, by the timeline that was cut
+-- ---- what is looked at, by what is found first of what is asked for: a timeline that was cut, a timeline, or that itself
 
-module _ (names_in : Timeline × Cutting → List (List ℕ)) where
-  abbrev pub names_by : Result (Timeline × Cutting) Refusal → List (List ℕ)
+module _ {D : Type 0} (names_in : D → List (List ℕ)) where
+  abbrev pub names_by : Result D Refusal → List (List ℕ)
   names_by (Ok s) = names_in s
   names_by (Err e) = []
 
-module _ (samples_in : Timeline × Cutting → List Read) where
-  abbrev pub samples_by : Result (Timeline × Cutting) Refusal → List Read
+module _ {D : Type 0} (samples_in : D → List Read) where
+  abbrev pub samples_by : Result D Refusal → List Read
   samples_by (Ok s) = samples_in s
   samples_by (Err e) = []
 
@@ -70,68 +66,71 @@ module _ (samples_in : Timeline × Cutting → List Read) where
 abbrev pub samples_read : Bool → List Read → List Read
 samples_read head_only samples = if not head_only then samples else []
 
-module _ (names_in : Timeline × Cutting → List (List ℕ)) (samples_in : Timeline × Cutting → List Read) where
-  -- of a leaf of a sequence these are looked at
-  pub record LooksSo (o : Setup) (leaf : Leaf) (sequence : ℕ) : Type 0 where
+module _ {D : Type 0} (names_in : D → List (List ℕ)) (samples_in : D → List Read) where
+  -- of a leaf these are looked at
+  pub record LooksSo (o : Setup) (found : Asking → Result D Refusal) (leaf : Leaf) : Type 0 where
     pub sought : is_sought leaf ≡ true
-    pub turns : (a : Asking) → turn_names o a leaf ≡ names_by names_in (timeline_asked o a sequence >>= cut_with o a)
+    pub turns : (a : Asking) → turn_names o a leaf ≡ names_by names_in (found a)
     pub further : (a : Asking) → further_names o a leaf ≡ []
-    pub samples : (range : Option ByteRange) (a : Asking) → ranged_reads o a range leaf ≡ samples_by samples_in (timeline_asked o a sequence >>= cut_with o a)
+    pub samples : (range : Option ByteRange) (a : Asking) → ranged_reads o a range leaf ≡ samples_by samples_in (found a)
 
-  module _ (o : Setup) (range : Option ByteRange) (ask : Ask) (sequence : ℕ) (so : LooksSo o ask.leaf sequence) where
+  module _ (o : Setup) (range : Option ByteRange) (ask : Ask) (found : Asking → Result D Refusal) (so : LooksSo o found ask.leaf) where
+    abbrev due : Result D Refusal
+    due = asking_of o ask >>= found
+
     abbrev mapped : List Read
     mapped = mapping_reads_by o (is_local ask.place) ask.target
 
-    abbrev looks_by : Result (Timeline × Cutting) Refusal → Looks
+    abbrev looks_by : Result D Refusal → Looks
     looks_by r = record { turns = names_by names_in r; further = []; samples = samples_by samples_in r }
 
-    looks_are : (r : Option ByteRange) → looks_of o r ask ≡ looks_by (cut_due o ask sequence)
+    looks_are : (r : Option ByteRange) → looks_of o r ask ≡ looks_by due
     unfolding looks_of
     looks_are r = by_asking (asking_of o ask)
       where
-        by_asking : (found : Result Asking Refusal)
-            → result_unwrap_or (found >>= λ a. Ok (record { turns = turn_names o a ask.leaf; further = further_names o a ask.leaf; samples = ranged_reads o a r ask.leaf })) no_looks
-            ≡ looks_by (found >>= λ a. cut_of o a sequence)
+        by_asking : (asking : Result Asking Refusal)
+            → result_unwrap_or (asking >>= λ a. Ok (record { turns = turn_names o a ask.leaf; further = further_names o a ask.leaf; samples = ranged_reads o a r ask.leaf })) no_looks
+            ≡ looks_by (asking >>= found)
         by_asking (Ok a) = rw (so.turns a, so.further a, so.samples r a) refl
         by_asking (Err e) = refl
 
-    abbrev later_by : Cache → Bool → Result (Timeline × Cutting) Refusal → List Read
+    abbrev later_by : Cache → Bool → Result D Refusal → List Read
     later_by cache head_only r = (turns o.files cache (names_by names_in r)).reads ++ samples_read head_only (samples_by samples_in r)
 
-    reads_are : (cache : Cache) (head_only : Bool) → asked_reads o cache head_only range ask ≡ mapped ++ later_by cache head_only (cut_due o ask sequence)
+    reads_are : (cache : Cache) (head_only : Bool) → asked_reads o cache head_only range ask ≡ mapped ++ later_by cache head_only due
     unfolding asked_reads ask_reads
     reads_are cache head_only =
         rw so.sought (
         append_assoc mapped (turns o.files cache (names_taken (looks_of o range ask) [])).reads (samples_read head_only (looks_of o range ask).samples)
         ∙ ap (λ (l : Looks). mapped ++ ((turns o.files cache (names_taken l [])).reads ++ samples_read head_only l.samples)) (looks_are range)
-        ∙ ap (λ (names : List (List ℕ)). mapped ++ ((turns o.files cache names).reads ++ samples_read head_only (samples_by samples_in (cut_due o ask sequence)))) (append-nil (names_by names_in (cut_due o ask sequence))))
+        ∙ ap (λ (names : List (List ℕ)). mapped ++ ((turns o.files cache names).reads ++ samples_read head_only (samples_by samples_in due))) (append-nil (names_by names_in due)))
 
-    names_are : asked_names o ask ≡ names_by names_in (cut_due o ask sequence)
+    names_are : asked_names o ask ≡ names_by names_in due
     unfolding asked_names
     names_are = rw so.sought (ap (λ (l : Looks). l.turns) (looks_are None))
 
-    later_none : (cache : Cache) (head_only : Bool) (e : Refusal) → cut_due o ask sequence ≡ Err e → later_by cache head_only (cut_due o ask sequence) ≡ []
+    later_none : (cache : Cache) (head_only : Bool) (e : Refusal) → due ≡ Err e → later_by cache head_only due ≡ []
     unfolding turns
     later_none cache true e is = rw is refl
     later_none cache false e is = rw is refl
 
     -- ---- replies
 
-    -- there is no timeline
-    pub reads_untimed : (head_only : Bool) (cache : Cache) (log log_now : Option (List Read)) (e : Refusal) → (e ≢ NoMemory → e ≢ StoreFailed → cut_due o ask sequence ≡ Err e)
+    -- it isn't found
+    pub reads_unfound : (head_only : Bool) (cache : Cache) (log log_now : Option (List Read)) (e : Refusal) → (e ≢ NoMemory → e ≢ StoreFailed → due ≡ Err e)
         → LogsErr e mapped log log_now → ReadsForAsk o head_only range ask (Refused e) cache cache log log_now
-    reads_untimed head_only cache log log_now e due logged = record {
+    reads_unfound head_only cache log log_now e none logged = record {
       logged = subst (λ (reads : List Read). LogsErr e reads log log_now) (sym (reads_are cache head_only))
-          (logs_ended e mapped (later_by cache head_only (cut_due o ask sequence)) log log_now logged (λ known_memory known_store. later_none cache head_only e (due known_memory known_store)));
+          (logs_ended e mapped (later_by cache head_only due) log log_now logged (λ known_memory known_store. later_none cache head_only e (none known_memory known_store)));
       leaves = (
         left_by_none o.files (asked_names o ask) cache,
-        λ known_memory known_store. sym (ap (λ (names : List (List ℕ)). (turns o.files cache names).cache) (names_are ∙ ap (names_by names_in) (due known_memory known_store)) ∙ turns_none o.files cache),
+        λ known_memory known_store. sym (ap (λ (names : List (List ℕ)). (turns o.files cache names).cache) (names_are ∙ ap (names_by names_in) (none known_memory known_store)) ∙ turns_none o.files cache),
       );
     }
 
-    module _ (s : Timeline × Cutting) (timed : cut_due o ask sequence ≡ Ok s) (head_only : Bool) (cache cache_now : Cache) (log log_cut log_now : Option (List Read)) (cut : log_cut ≡ told_with log mapped) where
+    module _ (s : D) (timed : due ≡ Ok s) (head_only : Bool) (cache cache_now : Cache) (log log_cut log_now : Option (List Read)) (cut : log_cut ≡ told_with log mapped) where
       all_reads : asked_reads o cache head_only range ask ≡ mapped ++ ((turns o.files cache (names_in s)).reads ++ samples_read head_only (samples_in s))
-      all_reads = reads_are cache head_only ∙ ap (λ (r : Result (Timeline × Cutting) Refusal). mapped ++ later_by cache head_only r) timed
+      all_reads = reads_are cache head_only ∙ ap (λ (r : Result D Refusal). mapped ++ later_by cache head_only r) timed
 
       all_names : asked_names o ask ≡ names_in s
       all_names = names_are ∙ ap (names_by names_in) timed

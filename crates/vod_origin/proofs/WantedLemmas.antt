@@ -23,6 +23,10 @@ leaf_planned o sequence a (Iframe number index video) = refl
 abbrev pub cut_with : Setup → Asking → Timeline → Result (Timeline × Cutting) Refusal
 cut_with o a t = Ok (t, cutting o a)
 
+-- the timeline of a sequence that was cut, by what is asked for
+abbrev pub cut_in : Setup → ℕ → Asking → Result (Timeline × Cutting) Refusal
+cut_in o sequence a = cut_of o a sequence
+
 module _ (o : Setup) (ask : Ask) (sequence : ℕ) (w : Wanted) (leaf_is : ask.leaf ≡ leaf_of sequence w) where
   abbrev answer_of : SegmentPlan → Answer
   answer_of = answer_with o.files sequence w

@@ -4,7 +4,7 @@ use Rattle.std.specs.Option.{option_map_or}
 use Rattle.vod_types.specs.declared.paths.Ask.{Ask}
 use Rattle.vod_types.specs.declared.paths.ByteRange.{ByteRange}
 use Rattle.vod_types.specs.declared.paths.Leaf.{Leaf}
-use Rattle.vod_types.specs.declared.paths.Leaf.TheVariants.{Index, Segment, Iframes, Iframe}
+use Rattle.vod_types.specs.declared.paths.Leaf.TheVariants.{Index, Init, Segment, Iframes, Iframe}
 use Rattle.vod_types.specs.declared.refusal.Refusal.{Refusal}
 use Rattle.vod_source.specs.Calls.{LogsReads}
 use Rattle.vod_source.specs.declared.step.Step.{Step}
@@ -30,9 +30,10 @@ cache_of metas = option_map_or names_held metas []
 
 -- ---- a request
 
--- the forms whose rows are found by seeks over the movies that are kept
+-- the forms of which what they say is found by seeks over the movies that are kept
 abbrev pub is_sought : Leaf → Bool
 is_sought (Index sequence asked) = true
+is_sought (Init part sequence asked) = true
 is_sought (Segment number sequence asked form) = true
 is_sought (Iframes sequence video) = true
 is_sought (Iframe number index sequence video) = true

@@ -65,6 +65,13 @@ cut_of o a sequence = timeline_asked o a sequence >>= λ t. Ok (t, cutting o a)
 abbrev pub cut_due : Setup → Ask → ℕ → Result (Timeline × Cutting) Refusal
 cut_due o ask sequence = asking_of o ask >>= λ a. cut_of o a sequence
 
+-- the timeline alone
+abbrev pub timeline_in : Setup → ℕ → Asking → Result Timeline Refusal
+timeline_in o sequence a = timeline_asked o a sequence
+
+abbrev pub timeline_due : Setup → Ask → ℕ → Result Timeline Refusal
+timeline_due o ask sequence = asking_of o ask >>= timeline_in o sequence
+
 -- the rows in a timeline that was cut, and their answer
 abbrev pub plan_of : Wanted → Timeline × Cutting → Result SegmentPlan Refusal
 plan_of w s = plan_due w s.1 s.0

@@ -13,6 +13,7 @@ ghost use Rattle.mp4_flat.specs.Asks.{IsPathAsk};
 use crate::bodies::plain_reply;
 use crate::cursor::Cursor;
 use crate::fragments::fragment_reply;
+use crate::inits::init_reply;
 use crate::lists::{iframes_reply, playlist_reply};
 use crate::plans::{plan, sequence_cut};
 use crate::streams::stream_reply;
@@ -24,8 +25,8 @@ use vod_plan::Plan;
 use vod_source::Store;
 use vod_types::{Ask, Form, Leaf, Settings};
 
-/// The reply to a request: segments, single I-frames, media playlists and I-frame playlists over the metadata that are kept, and
-/// all else by the plain way.
+/// The reply to a request: segments, single I-frames, initialization segments, media playlists and I-frame playlists over the
+/// metadata that are kept, and all else by the plain way.
 pub(crate) fn ask_reply<S: Store>(
     alloc: Global,
     metas: &mut Option<Metas>,
@@ -80,6 +81,13 @@ fn made_reply<S: Store>(
         Leaf::Iframes { sequence, video } => {
             iframes_reply(alloc, metas, store, settings, root, ask, sequence, video)
         }
+        Leaf::Init {
+            part,
+            sequence,
+            asked,
+        } => init_reply(
+            alloc, metas, store, settings, root, ask, part, sequence, asked,
+        ),
         _ => plain_reply(alloc, store, settings, root, ask),
     }
 }

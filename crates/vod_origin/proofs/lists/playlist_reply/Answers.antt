@@ -11,7 +11,8 @@ use Rattle.vod_origin.proofs.ReplyLemmas.{refused}
 use Rattle.vod_source.proofs.CallLemmas.{told_with_both}
 use Rattle.vod_origin.specs.Wanted.{cut_view}
 use Rattle.vod_origin.proofs.SoughtReads.{told_pair}
-use Rattle.vod_origin.proofs.ListReads.{index_looked, reads_of_list, reads_of_refused, reads_of_unlisted, reads_of_untimed}
+use Rattle.vod_origin.proofs.ListReads.{index_looked}
+use Rattle.vod_origin.proofs.MadeReads.{reads_of_made, reads_of_refused, reads_of_unfound, reads_of_unmade}
 use Rattle.vod_origin.proofs.lists.playlist_reply.Goals as goal
 
 pub returns-in-Err-clause-replies : goal.returns-in-Err-clause-replies
@@ -50,21 +51,21 @@ returns-in-Ok-playlist_of-clause-begins g c =
 pub returns-in-Err-clause-reads : goal.returns-in-Err-clause-reads
 returns-in-Err-clause-reads g c = λ head_only range.
     told_with_both (g.S.Store.content c.args.store.now) _ _ _ c.in-Err.ensures.told c.in-Err.ensures.logged
-    (λ files due logged. reads_of_untimed (setup_of c.args.settings.now c.args.root.now files) head_only range c.args.ask c.args.sequence c.args.asked (index_looked (setup_of c.args.settings.now c.args.root.now files) c.args.ask.leaf c.args.sequence c.args.asked c.requires.leaf) _ _ _ c.in-Err.refusal due logged)
+    (λ files due logged. reads_of_unfound (setup_of c.args.settings.now c.args.root.now files) head_only range c.args.ask (index_looked (setup_of c.args.settings.now c.args.root.now files) c.args.ask.leaf c.args.sequence c.args.asked c.requires.leaf) _ _ _ c.in-Err.refusal due logged)
 
 pub returns-in-Err-listed-clause-reads : goal.returns-in-Err-listed-clause-reads
 returns-in-Err-listed-clause-reads g c = λ head_only range.
     told_with_other (g.S.Store.content c.args.store.now) _ _ _ _ c.in-Ok.ensures.content
     (told_pair (g.S.Store.content c.args.store.now) _ _ c.in-Ok.ensures.told c.in-Ok.ensures.logged) c.in-Err-listed.ensures.turned
     (λ files cut turned.
-    reads_of_refused (setup_of c.args.settings.now c.args.root.now files) head_only range c.args.ask c.args.sequence c.args.asked (index_looked (setup_of c.args.settings.now c.args.root.now files) c.args.ask.leaf c.args.sequence c.args.asked c.requires.leaf) (cut_view files c.in-Ok.cut) cut.0 _ _ _ _ _ cut.1 c.in-Err-listed.refusal turned)
+    reads_of_refused (setup_of c.args.settings.now c.args.root.now files) head_only range c.args.ask (index_looked (setup_of c.args.settings.now c.args.root.now files) c.args.ask.leaf c.args.sequence c.args.asked c.requires.leaf) (cut_view files c.in-Ok.cut) cut.0 _ _ _ _ _ cut.1 c.in-Err-listed.refusal turned)
 
 pub returns-in-Ok-playlist_of-clause-reads : goal.returns-in-Ok-playlist_of-clause-reads
 returns-in-Ok-playlist_of-clause-reads g c = λ head_only range.
     told_with_other (g.S.Store.content c.args.store.now) _ _ _ _ c.in-Ok.ensures.content
     (told_pair (g.S.Store.content c.args.store.now) _ _ c.in-Ok.ensures.told c.in-Ok.ensures.logged) c.in-Ok-listed.ensures.turned
     (λ files cut turned.
-    reads_of_list (setup_of c.args.settings.now c.args.root.now files) head_only range c.args.ask c.args.sequence c.args.asked (index_looked (setup_of c.args.settings.now c.args.root.now files) c.args.ask.leaf c.args.sequence c.args.asked c.requires.leaf) (cut_view files c.in-Ok.cut) cut.0 _ _ _ _ _ cut.1
+    reads_of_made (setup_of c.args.settings.now c.args.root.now files) head_only range c.args.ask (index_looked (setup_of c.args.settings.now c.args.root.now files) c.args.ask.leaf c.args.sequence c.args.asked c.requires.leaf) (cut_view files c.in-Ok.cut) cut.0 _ _ _ _ _ cut.1
     c.in-Ok-listed.listed turned _ _ c.begun.result c.begun.ensures)
 
 pub returns-clause-reads : goal.returns-clause-reads
@@ -72,5 +73,5 @@ returns-clause-reads g c = λ head_only range.
     told_with_other (g.S.Store.content c.args.store.now) _ _ _ _ c.in-Ok.ensures.content
     (told_pair (g.S.Store.content c.args.store.now) _ _ c.in-Ok.ensures.told c.in-Ok.ensures.logged) c.in-Ok-listed.ensures.turned
     (λ files cut turned.
-    reads_of_unlisted (setup_of c.args.settings.now c.args.root.now files) head_only range c.args.ask c.args.sequence c.args.asked (index_looked (setup_of c.args.settings.now c.args.root.now files) c.args.ask.leaf c.args.sequence c.args.asked c.requires.leaf) (cut_view files c.in-Ok.cut) cut.0 _ _ _ _ _ cut.1
+    reads_of_unmade (setup_of c.args.settings.now c.args.root.now files) head_only range c.args.ask (index_looked (setup_of c.args.settings.now c.args.root.now files) c.args.ask.leaf c.args.sequence c.args.asked c.requires.leaf) (cut_view files c.in-Ok.cut) cut.0 _ _ _ _ _ cut.1
     c.in-Ok-listed.listed turned c.in-Err-playlist_of.refusal c.in-Err-playlist_of.ensures.only)
