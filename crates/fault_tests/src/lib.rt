@@ -4,6 +4,8 @@
 #[cfg(test)]
 mod damages;
 #[cfg(test)]
+mod fields;
+#[cfg(test)]
 mod long_films;
 #[cfg(test)]
 mod lying_files;
