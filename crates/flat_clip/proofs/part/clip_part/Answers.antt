@@ -5,8 +5,8 @@ use Rattle.flat_clip.proofs.part.clip_part.Goals as goal
 
 pub returns-in-Ok-clause-told : goal.returns-in-Ok-clause-told
 returns-in-Ok-clause-told g c =
-    told_with_other (g.S.Store.content c.args.files.now) (g.S.Store.content c.clip_rows.new.files) _ _ _ c.in-Ok.ensures.content c.in-Ok.ensures.told c.part_of.ensures.told
-    (λ known came later grid align. whole-found (cutting_of known c.args.edits grid align) c.args.asked c.args.timeline.now c.args.sequence c.args.range c.in-Ok.rows c.part_of.result _ _ _
+    told_with_other (g.S.Store.content c.args.files.now) (g.S.Store.content c.clip_rows.new.files) _ _ _ c.in-Ok.ensures.content c.in-Ok.ensures.told c.rows_part.ensures.told
+    (λ known came later grid align. whole-found (cutting_of known c.args.edits grid align) c.args.asked c.args.timeline.now c.args.sequence c.args.range c.in-Ok.rows c.rows_part.result _ _ _
     (came grid align) c.in-Ok.ensures.small later)
 
 pub returns-in-Err-clause-told : goal.returns-in-Err-clause-told
