@@ -1,5 +1,5 @@
 -- The rows of a clip are those of which the front of a clip is written.
-use Rattle.std.proofs.Common.{◌≡◌, ℕ, ◌+◌, ◌-◌, ◌<◌, ◌≤◌, ◌^◌, List, [], ◌∷◌, length, map, get_or, All, ℤ, pos, ◌+ℤ◌, ◌-ℤ◌, unsigned_abs, FitsSigned, Option, Some, None, IfSome, refl, sym, ap, ◌∙◌, subst, arith}
+use Rattle.std.proofs.Common.{◌≡◌, ℕ, ◌+◌, ◌-◌, ◌<◌, ◌≤◌, ◌^◌, List, [], ◌∷◌, length, map, All, ℤ, ◌+ℤ◌, ◌-ℤ◌, unsigned_abs, FitsSigned, Option, Some, None, IfSome, refl, sym, ap, ◌∙◌, subst, arith}
 use Rattle.std.specs.Prelude.{option_map}
 use Rattle.std.specs.Int.{w32}
 use Rattle.std.specs.List.{AllByRecursion, range_with_len}
@@ -11,7 +11,6 @@ use Rattle.vod_types.specs.declared.segments.Form.TheVariants.{Fmp4}
 use Rattle.vod_types.specs.declared.segments.Row.{Row}
 use Rattle.vod_types.specs.declared.tracks.Kind.{Kind}
 use Rattle.vod_types.specs.declared.tracks.Kind.TheVariants.{Video, Audio}
-use Rattle.mp4_model.specs.Clock.{to_units}
 use Rattle.mp4_model.specs.Edits.{Edit}
 use Rattle.mp4_model.specs.Samples.{flat_row, flat_rows, sample_count}
 use Rattle.mp4_model.proofs.OffsetLemmas.{shown_near}
@@ -25,13 +24,13 @@ use Rattle.origin_model.specs.Clips.{clip_track}
 use Rattle.vod_plan.specs.declared.spans.PlanPiece.{PlanPiece}
 use Rattle.vod_plan.specs.Ranges.{RowRange, range_of, range_rows}
 use Rattle.vod_plan.specs.Selected.{IsKept, IsKeptIn}
-use Rattle.vod_plan.specs.Spans.{piece_view, rows_in, IsPlanPiece, IsRange}
+use Rattle.vod_plan.specs.Spans.{piece_view, IsPlanPiece, IsRange}
 use Rattle.vod_plan.proofs.RangeLemmas.{of_tables, source}
 use Rattle.vod_plan.proofs.SpotLemmas.{good_range, timely}
 use Rattle.flat_clip.specs.Tracks.{HasRoom, IsClipRow, IsSmallTrack}
 use Rattle.flat_clip.proofs.EntryLemmas.{has_reference}
 use Rattle.mp4_clip.specs.Kept.{kept_rows, track_with_rows, AreFew}
-use Rattle.mp4_clip.proofs.KeptRows.{kept-are, kept-length, kept-none, kept_row}
+use Rattle.mp4_clip.proofs.KeptRows.{kept-are, kept-length, kept_row}
 use Rattle.mp4_clip.proofs.StartLemmas.{track-rows}
 
 -- ---- a row
@@ -53,7 +52,7 @@ module _ (kind : Kind) (p : PlanPiece) (r : RowRange) (e : range_of kind (piece_
 
   -- presentation minus decode time fits 32 bits
   offset-fits : (i : ℕ) → r.from ≤ i → i < r.to → OffsetFits (row_in_file i)
-  unfolding flat_rows
+  unfolding flat_rows flat_row
   offset-fits i from to =
       let s = source kind r in
       let t = r.track.tables in

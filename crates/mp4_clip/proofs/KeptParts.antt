@@ -10,7 +10,7 @@ use Rattle.clip_model.specs.Timeline.{Timeline}
 use Rattle.segment_model.specs.Grid.{SegmentGrid}
 use Rattle.vod_source.specs.Calls.{AnswersUnlessFailed}
 use Rattle.vod_source.specs.Stored.{Files, bytes_of}
-use Rattle.origin_model.specs.Clips.{PlannedClip, checked_clip, one_piece, planned_clip}
+use Rattle.origin_model.specs.Clips.{checked_clip, one_piece, planned_clip}
 use Rattle.origin_model.specs.Loaded.{CheckedPiece, checked, checked_in, loaded}
 use Rattle.origin_model.specs.Plans.{pieces_or_none}
 use Rattle.vod_plan.specs.Tracks as kept

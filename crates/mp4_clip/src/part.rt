@@ -3,20 +3,19 @@
 ghost use Rattle.std.specs.Prelude.{◌≡◌, ◌++◌, ◌≤◌, ◌<◌, [], ◌∷◌, ◌≢◌, length, Bool, Ok, IfErr, IfOk, IfSome, IsErrOf};
 ghost use Rattle.std.specs.Rc.{rc_value};
 ghost use Rattle.vod_types.specs.declared.refusal.Refusal.TheVariants.{StoreFailed};
-ghost use Rattle.vod_types.specs.Results.{◌>>=◌, Answers};
+ghost use Rattle.vod_types.specs.Results.{Answers};
 ghost use Rattle.segment_model.specs.Grid.{SegmentGrid};
 ghost use Rattle.vod_source.specs.Calls.{AnswersUnlessFailed, Came};
 ghost use Rattle.vod_source.specs.Causes.{Rose};
 ghost use Rattle.vod_source.specs.Stored.{bytes_of};
-ghost use Rattle.origin_model.specs.Clips.{asked_part as asked_part_of, checked_clip as checked_clip_of, planned_clip};
-ghost use Rattle.origin_model.specs.Loaded.{checked};
+ghost use Rattle.origin_model.specs.Clips.{asked_part as asked_part_of, planned_clip};
 ghost use Rattle.origin_model.specs.Reads.{turns};
 ghost use Rattle.answer_laws.specs.Refusals.{IsPathRefusal};
 ghost use Rattle.flat_clip.specs.Answers.{due_part, part_view, sample_reads_of, IsClipRefusal};
 ghost use Rattle.flat_clip.specs.Rows.{as_facts, clip_looks, cutting_of, facts_of, IsSmallClip};
 ghost use Rattle.vod_meta.specs.Held.{names_held, AreTrue};
 ghost use Rattle.vod_plan.specs.Turned.{AreTurns, LeavesCache};
-ghost use Rattle.mp4_clip.specs.Kept.{due_clip};
+ghost use Rattle.mp4_clip.specs.Kept.{due_clip, piece_facts};
 
 use crate::making::clip;
 use clip_model::Piece;
@@ -109,7 +108,7 @@ fn piece_rows<S: Store>(
 ) -> Result<ClipRows, Refusal>
     requires held { IfSome (S.content store.old) (λ files. AreTrue files metas.old) }
     ensures told { IfSome (S.content store.old) (λ files.
-        AnswersUnlessFailed facts_of result (as_facts (checked files edits asked piece.now >>= checked_clip_of sequence asked))) }
+        AnswersUnlessFailed facts_of result (piece_facts files edits asked sequence piece.now)) }
     ensures turned { IfSome (S.content store.old) (λ files.
         AreTurns files (piece.now.name ∷ []) result (names_held metas.old) (names_held metas.new) (S.log store.old) (S.log store.new)) }
     ensures sized { IfOk result (λ rows. IfSome (S.content store.old) (λ files. length (bytes_of files rows.name) ≡ rows.file_size)) }

@@ -4,7 +4,7 @@ use Rattle.mp4_clip.specs.Kept.{kept_rows}
 use Rattle.mp4_clip.proofs.written.written_rows.Given as goal
 
 abbrev pub invariant-loop-row : goal.invariant-loop-row
-invariant-loop-row l = l.samples.items ++ l.left ≡ kept_rows l.kind l.rows
+invariant-loop-row l = l.samples.items ++ l.left ≡ kept_rows l.fn.kind l.rows
 
 abbrev pub decreases-loop-row : goal.decreases-loop-row
 decreases-loop-row l = length l.left
