@@ -38,7 +38,7 @@ module _ (o : Setup) (part sequence : ℕ) (asked : Asked) where
       by_timeline (Err e) = refl
 
   pub init_looks : LooksSo (init_names_in part) none_in o (timeline_in o sequence) (Init part sequence asked)
-  init_looks = record { sought = refl; turns = turned; samples = none_sampled }
+  init_looks = record { heads = λ head_only. refl; turns = turned; samples = none_sampled }
 
 -- of a leaf that is one
 pub init_looked : (o : Setup) (leaf : Leaf) (part sequence : ℕ) (asked : Asked) → leaf ≡ Init part sequence asked → LooksSo (init_names_in part) none_in o (timeline_in o sequence) leaf

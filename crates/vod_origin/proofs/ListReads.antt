@@ -39,7 +39,7 @@ unfolding sample_reads
 index_samples o asked sequence range a = none_by o asked a (timeline_asked o a sequence)
 
 pub index_looks : (o : Setup) (sequence : ℕ) (asked : Asked) → LooksSo (names_in asked) none_in o (cut_in o sequence) (Index sequence asked)
-index_looks o sequence asked = record { sought = refl; turns = index_turns o asked sequence; samples = index_samples o asked sequence }
+index_looks o sequence asked = record { heads = λ head_only. refl; turns = index_turns o asked sequence; samples = index_samples o asked sequence }
 
 marks_turns : (o : Setup) (video sequence : ℕ) (a : Asking) → turn_names o a (Iframes sequence video) ≡ names_by (names_in (video_alone video)) (timeline_asked o a sequence >>= cut_with o a)
 unfolding turn_pieces
@@ -50,7 +50,7 @@ unfolding sample_reads
 marks_samples o video sequence range a = none_by o (video_alone video) a (timeline_asked o a sequence)
 
 pub marks_looks : (o : Setup) (sequence video : ℕ) → LooksSo (names_in (video_alone video)) none_in o (cut_in o sequence) (Iframes sequence video)
-marks_looks o sequence video = record { sought = refl; turns = marks_turns o video sequence; samples = marks_samples o video sequence }
+marks_looks o sequence video = record { heads = λ head_only. refl; turns = marks_turns o video sequence; samples = marks_samples o video sequence }
 
 -- of a leaf that is one
 pub index_looked : (o : Setup) (leaf : Leaf) (sequence : ℕ) (asked : Asked) → leaf ≡ Index sequence asked → LooksSo (names_in asked) none_in o (cut_in o sequence) leaf

@@ -54,7 +54,7 @@ module _ {X : Type 0} (view : X → List ListedSegment) (o : Setup) (ask : Ask) 
 
   names_same : asked_names o ask ≡ (looks_of o None ask).turns
   unfolding asked_names
-  names_same = rw leaf_is refl
+  names_same = refl
 
   -- there is no timeline
   pub rows_untimed : (cache : Cache) (log log_now : Option (List Read)) (e : Refusal) → (e ≢ NoMemory → e ≢ StoreFailed → cut_due o ask sequence ≡ Err e)

@@ -1,8 +1,9 @@
 -- What is read for a path.
 use Rattle.std.proofs.Common.{◌≡◌, ◌≢◌, ℕ, Bool, true, false, List, [], Option, Result, Ok, Err, refl, sym, ap, ◌∙◌, subst}
-use Rattle.std.specs.Prelude.{if◌then◌else◌}
 use Rattle.vod_types.specs.declared.paths.Ask.{Ask}
 use Rattle.vod_types.specs.declared.paths.ByteRange.{ByteRange}
+use Rattle.vod_types.specs.declared.paths.Leaf.{Leaf}
+use Rattle.vod_types.specs.declared.paths.Leaf.TheVariants.{Master, Mpd, Index, Init, Segment, Iframes, Iframe, Clip}
 use Rattle.vod_types.specs.declared.refusal.Refusal.{Refusal}
 use Rattle.vod_types.specs.declared.refusal.Refusal.TheVariants.{NoMemory}
 use Rattle.vod_source.specs.Stored.{Read}
@@ -13,7 +14,7 @@ use Rattle.origin_model.specs.Answers.{every_leaf, readable}
 use Rattle.origin_model.specs.Reads.{Cache, ask_reads, if_readable, path_reads, turns}
 use Rattle.origin_model.specs.Requests.{Setup}
 use Rattle.vod_origin.specs.declared.cursor.Cursor.{Cursor}
-use Rattle.vod_origin.specs.Reads.{ReadsFor, ReadsForAsk, ReadsForPath, asked_names, asked_reads, is_sought, origin_names, origin_reads}
+use Rattle.vod_origin.specs.Reads.{ReadsFor, ReadsForAsk, ReadsForPath, asked_names, asked_reads, origin_names, origin_reads, reads_samples}
 use Rattle.vod_origin.proofs.SoughtReads.{left_by_none, turns_none}
 
 module _ (o : Setup) (head_only : Bool) (path : List ℕ) (range : Option ByteRange) where
@@ -37,14 +38,20 @@ module _ (o : Setup) (head_only : Bool) (path : List ℕ) (range : Option ByteRa
   }
 
 -- where no movie is kept, of every form those of a request that finds an empty cache
+reads_whole : (leaf : Leaf) → reads_samples false leaf ≡ true
+reads_whole Master = refl
+reads_whole Mpd = refl
+reads_whole (Index sequence asked) = refl
+reads_whole (Init part sequence asked) = refl
+reads_whole (Segment number sequence asked form) = refl
+reads_whole (Iframes sequence video) = refl
+reads_whole (Iframe number index sequence video) = refl
+reads_whole (Clip sequence asked) = refl
+
 pub reads_anew : (o : Setup) (path : List ℕ) (range : Option ByteRange) → origin_reads o [] false path range ≡ path_reads every_leaf o [] true [] path range
 unfolding path_reads asked_reads
 reads_anew o path range = by_read (readable path)
   where
-    by_form : (ask : Ask) (sought : Bool) → (if sought then ask_reads o [] true [] range ask else ask_reads o [] true [] range ask) ≡ ask_reads o [] true [] range ask
-    by_form ask true = refl
-    by_form ask false = refl
-
     by_read : (r : Result Ask Refusal) → if_readable r [] (asked_reads o [] false range) ≡ if_readable r [] (ask_reads o [] true [] range)
-    by_read (Ok ask) = by_form ask (is_sought ask.leaf)
+    by_read (Ok ask) = ap (λ (with_body : Bool). ask_reads o [] with_body [] range ask) (reads_whole ask.leaf)
     by_read (Err e) = refl

@@ -44,7 +44,7 @@ use Rattle.vod_origin.specs.declared.cursor.Cursor.{Cursor}
 use Rattle.vod_origin.specs.declared.cursor.Cursor.TheVariants.{Fragment, Stream}
 use Rattle.vod_origin.specs.declared.wanted.Wanted.{Wanted}
 use Rattle.vod_origin.specs.declared.wanted.Wanted.TheVariants as wants
-use Rattle.vod_origin.specs.Reads.{ReadsForAsk, is_sought, reads_left, reads_to_come}
+use Rattle.vod_origin.specs.Reads.{ReadsForAsk, reads_left, reads_samples, reads_to_come}
 use Rattle.vod_origin.specs.Wanted.{asked_of, cut_due, form_of, leaf_of, number_of, plan_due, plan_names, plan_of}
 use Rattle.vod_origin.proofs.SoughtReads.{LooksSo, names_by, reads_begun, reads_refused, reads_unfound, reads_unmade, samples_by, samples_read}
 use Rattle.vod_origin.proofs.WantedLemmas.{cut_in, cut_with}
@@ -95,12 +95,12 @@ module _ (o : Setup) (w : Wanted) (sequence : ℕ) where
       by_wanted (wants.Segment number asked form) = by_timeline (timeline_asked o a sequence) (wants.Segment number asked form)
       by_wanted (wants.Iframe number index video) = by_timeline (timeline_asked o a sequence) (wants.Iframe number index video)
 
-  is_sought_wanted : (w : Wanted) → is_sought (leaf_of sequence w) ≡ true
-  is_sought_wanted (wants.Segment number asked form) = refl
-  is_sought_wanted (wants.Iframe number index video) = refl
+  heads_wanted : (w : Wanted) (head_only : Bool) → reads_samples head_only (leaf_of sequence w) ≡ not head_only
+  heads_wanted (wants.Segment number asked form) head_only = refl
+  heads_wanted (wants.Iframe number index video) head_only = refl
 
   pub wanted_looks : LooksSo (names_in o.files w) (samples_in o.files w) o (cut_in o sequence) (leaf_of sequence w)
-  wanted_looks = record { sought = is_sought_wanted w; turns = turned; samples = sampled }
+  wanted_looks = record { heads = heads_wanted w; turns = turned; samples = sampled }
 
 -- ---- samples
 

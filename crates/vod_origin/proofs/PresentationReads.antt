@@ -1,5 +1,6 @@
 -- What is looked at for a master playlist or a media presentation description.
-use Rattle.std.proofs.Common.{◌≡◌, true, Option, Ok, refl, sym, subst}
+use Rattle.std.proofs.Common.{◌≡◌, Bool, Option, Ok, refl, sym, subst}
+use Rattle.std.specs.Prelude.{not}
 use Rattle.vod_types.specs.declared.paths.ByteRange.{ByteRange}
 use Rattle.vod_types.specs.declared.paths.Leaf.{Leaf}
 use Rattle.origin_model.specs.Reads.{ranged_reads, sample_reads}
@@ -7,13 +8,13 @@ use Rattle.origin_model.specs.Requests.{Setup, Asking}
 use Rattle.vod_origin.specs.declared.presentations.Presentation.{Presentation}
 use Rattle.vod_origin.specs.declared.presentations.Presentation.TheVariants.{Master, Description}
 use Rattle.vod_origin.specs.Presentations.{asking_in, leaf_presented, names_presented}
-use Rattle.vod_origin.specs.Reads.{is_sought}
+use Rattle.vod_origin.specs.Reads.{reads_samples}
 use Rattle.vod_origin.proofs.MadeReads.{none_in}
 use Rattle.vod_origin.proofs.SoughtReads.{LooksSo, samples_by}
 
-sought : (p : Presentation) → is_sought (leaf_presented p) ≡ true
-sought Master = refl
-sought Description = refl
+heads : (p : Presentation) (head_only : Bool) → reads_samples head_only (leaf_presented p) ≡ not head_only
+heads Master head_only = refl
+heads Description head_only = refl
 
 none_sampled : (o : Setup) (p : Presentation) (range : Option ByteRange) (a : Asking) → ranged_reads o a range (leaf_presented p) ≡ samples_by none_in (asking_in a)
 unfolding sample_reads
@@ -21,7 +22,7 @@ none_sampled o Master range a = refl
 none_sampled o Description range a = refl
 
 presentation_looks : (o : Setup) (p : Presentation) → LooksSo (names_presented p o) none_in o asking_in (leaf_presented p)
-presentation_looks o p = record { sought = sought p; turns = λ a. refl; samples = none_sampled o p }
+presentation_looks o p = record { heads = heads p; turns = λ a. refl; samples = none_sampled o p }
 
 -- of a leaf that is one
 pub presentation_looked : (o : Setup) (leaf : Leaf) (p : Presentation) → leaf ≡ leaf_presented p → LooksSo (names_presented p o) none_in o asking_in leaf

@@ -20,7 +20,7 @@ use Rattle.origin_model.specs.Reads.{Cache, Looks, ask_reads, further_names, loo
 use Rattle.origin_model.specs.Requests.{Setup, Asking, asking_of}
 use Rattle.vod_plan.specs.Turned.{AreTurns, LeavesCache, LeftByFirst}
 use Rattle.vod_origin.specs.declared.cursor.Cursor.{Cursor}
-use Rattle.vod_origin.specs.Reads.{LogsReply, ReadsFor, ReadsForAsk, asked_names, asked_reads, is_sought, outcome_of, reads_to_come}
+use Rattle.vod_origin.specs.Reads.{LogsReply, ReadsFor, ReadsForAsk, asked_names, asked_reads, outcome_of, reads_samples, reads_to_come}
 
 -- ---- values that may be told
 
@@ -69,7 +69,7 @@ samples_read head_only samples = if not head_only then samples else []
 module _ {D : Type 0} (names_in : D → List (List ℕ)) (samples_in : D → List Read) where
   -- of a leaf these are looked at
   pub record LooksSo (o : Setup) (found : Asking → Result D Refusal) (leaf : Leaf) : Type 0 where
-    pub sought : is_sought leaf ≡ true
+    pub heads : (head_only : Bool) → reads_samples head_only leaf ≡ not head_only
     pub turns : (a : Asking) → turn_names o a leaf ≡ names_by names_in (found a)
     pub samples : (range : Option ByteRange) (a : Asking) → ranged_reads o a range leaf ≡ samples_by samples_in (found a)
 
@@ -105,14 +105,14 @@ module _ {D : Type 0} (names_in : D → List (List ℕ)) (samples_in : D → Lis
     reads_are : (cache : Cache) (head_only : Bool) → asked_reads o cache head_only range ask ≡ mapped ++ later_by cache head_only due
     unfolding asked_reads ask_reads
     reads_are cache head_only =
-        rw so.sought (
+        rw (so.heads head_only) (
         append_assoc mapped (turns o.files cache (names_taken (looks_of o range ask) [])).reads (samples_read head_only (looks_of o range ask).samples)
         ∙ ap₂ (λ (names : List (List ℕ)) (samples : List Read). mapped ++ ((turns o.files cache names).reads ++ samples_read head_only samples))
         (append-nil (looks_of o range ask).turns ∙ turns_are range) samples_are)
 
     names_are : asked_names o ask ≡ names_by names_in due
     unfolding asked_names
-    names_are = rw so.sought (turns_are None)
+    names_are = turns_are None
 
     later_none : (cache : Cache) (head_only : Bool) (e : Refusal) → due ≡ Err e → later_by cache head_only due ≡ []
     unfolding turns

@@ -1,5 +1,5 @@
 -- What an origin reads for a request, and the movies that it keeps after it; this project's own.
-use Rattle.std.specs.Prelude.{◌≡◌, ℕ, Bool, true, false, not, List, [], ◌++◌, Option, None, Result, Ok, Err, if◌then◌else◌}
+use Rattle.std.specs.Prelude.{◌≡◌, ℕ, Bool, true, false, not, List, [], ◌++◌, Option, None, Result, Ok, Err}
 use Rattle.std.specs.Option.{option_map_or}
 use Rattle.vod_types.specs.declared.paths.Ask.{Ask}
 use Rattle.vod_types.specs.declared.paths.ByteRange.{ByteRange}
@@ -30,19 +30,18 @@ cache_of metas = option_map_or names_held metas []
 
 -- ---- a request
 
--- the forms of which what they say is found by seeks over the movies that are kept: all but clips
-abbrev pub is_sought : Leaf → Bool
-is_sought (Clip sequence asked) = false
-is_sought _ = true
+-- the samples of a clip are read before its reply, for a head too; for a head of any other form none is
+abbrev pub reads_samples : Bool → Leaf → Bool
+reads_samples head_only (Clip sequence asked) = true
+reads_samples head_only _ = not head_only
 
--- Such a form reads what the movies that are kept leave to be read, and for a head alone no sample. A clip reads as if no movie
--- were kept, and its samples for a head too.
+-- what the movies that are kept leave to be read
 unfoldable pub asked_reads : Setup → Cache → Bool → Option ByteRange → Ask → List Read
-asked_reads o cache head_only range ask = if is_sought ask.leaf then ask_reads o cache (not head_only) [] range ask else ask_reads o [] true [] range ask
+asked_reads o cache head_only range ask = ask_reads o cache (reads_samples head_only ask.leaf) [] range ask
 
--- the names of the files that have a turn in the cache: a clip leaves the movies that are kept as they are
+-- the names of the files that have a turn in the cache
 unfoldable pub asked_names : Setup → Ask → List (List ℕ)
-asked_names o ask = if is_sought ask.leaf then (looks_of o None ask).turns else []
+asked_names o ask = (looks_of o None ask).turns
 
 -- the same of a path
 abbrev pub origin_reads : Setup → Cache → Bool → List ℕ → Option ByteRange → List Read

@@ -68,8 +68,8 @@ pub(crate) fn init_reply<S: Store>(
     }
 }
 
-// The timeline of a sequence by its number from 1 in what a request asks for. Of the store a mapping file is read alone.
-fn sequence_timeline<S: Store>(
+/// The timeline of a sequence by its number from 1 in what a request asks for. Of the store a mapping file is read alone.
+pub(crate) fn sequence_timeline<S: Store>(
     alloc: Global,
     store: &mut S,
     root: &str,

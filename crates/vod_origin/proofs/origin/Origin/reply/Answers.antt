@@ -7,7 +7,6 @@ use Rattle.flat_lists.specs.Asked.{setup_of}
 use Rattle.vod_origin.specs.Begun.{Begins}
 use Rattle.vod_origin.specs.Kept.{OriginKept}
 use Rattle.vod_origin.specs.Ranges.{clip_of}
-use Rattle.origin_model.specs.Reads.{Cache}
 use Rattle.vod_origin.specs.Reads.{ReadsForPath, cache_of}
 use Rattle.vod_origin.proofs.ClipReplies.{clip_leaf}
 use Rattle.vod_origin.proofs.PathReads.{of_path, of_unread}
@@ -81,11 +80,8 @@ returns-in-Some-clause-reads g c =
     let settings : c.self.inside.settings ≡ c.args.self.now.settings = cc in
     let root : c.as_str-root.result.now ≡ c.args.self.now.root = cc in
     let held : cache_of c.self.inside.metas ≡ c.args.self.now.cache = cc in
-    told_with_all k.content _ _ (rw (root, settings, store) at (c.clip_reply.ensures.reads c.args.head_only (cache_of c.self.inside.metas)))
-    (λ files read.
-    subst (λ (cache : Cache). ReadsForPath (setup_of k.settings k.root files) c.args.head_only c.args.path.now c.args.range c.clip_reply.result cache (cache_of c.self.inside.metas)
-    (g.S.Store.log c.args.self.now.store) (g.S.Store.log c.clip_reply.new.store)) held
-    (of_path (setup_of k.settings k.root files) c.args.head_only c.args.path.now c.args.range c.in-Ok.ask c.in-Ok.ensures.answers _ _ _ _ _ read))
+    told_with_all k.content _ _ (rw (root, settings, store, held) at (c.clip_reply.ensures.reads c.args.head_only))
+    (λ files read. of_path (setup_of k.settings k.root files) c.args.head_only c.args.path.now c.args.range c.in-Ok.ask c.in-Ok.ensures.answers _ _ _ _ _ read)
 
 pub returns-in-Err-clause-reads : goal.returns-in-Err-clause-reads
 returns-in-Err-clause-reads g c =
