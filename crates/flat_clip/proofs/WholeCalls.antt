@@ -24,13 +24,12 @@ use Rattle.vod_source.proofs.CallLemmas.{logs_ended, logs_then}
 use Rattle.origin_model.specs.Clips.{PlannedClip, asked_part, checked_part, clip_audio, clip_bytes, clip_length, clip_video, met_reads, part_fault, part_reads, planned_clip}
 use Rattle.origin_model.specs.Loaded.{CheckedPiece}
 use Rattle.origin_model.specs.Plans.{Cutting}
-use Rattle.origin_model.specs.Reads.{turns}
 use Rattle.origin_model.specs.Samples.{sample_fault}
 use Rattle.flat_clip.specs.declared.part.ClipPart.{ClipPart}
 use Rattle.flat_clip.specs.declared.rows.ClipRows.{ClipRows}
-use Rattle.flat_clip.specs.Answers.{PartFacts, due_part, facts_part, held_part, held_reads, part_reads_of, part_view, planned_part}
+use Rattle.flat_clip.specs.Answers.{PartFacts, due_part, facts_part, held_part, held_reads, part_view, planned_part, sample_reads_of}
 use Rattle.flat_clip.specs.Parts.{bytes_in, first_fault, met_fault, row_fault, row_reads}
-use Rattle.flat_clip.specs.Rows.{ClipFacts, IsSmallClip, as_facts, clip_looks, facts_of, planned_facts}
+use Rattle.flat_clip.specs.Rows.{ClipFacts, IsSmallClip, as_facts, facts_of, planned_facts}
 use Rattle.flat_clip.specs.Tracks.{IsClipRow}
 use Rattle.flat_clip.proofs.PartCalls.{references}
 use Rattle.flat_clip.proofs.Slices.{sizes-are}
@@ -141,20 +140,17 @@ module _ (p : PlannedClip) (small : IsSmallClip (planned_facts p)) (range : Opti
 
 -- ---- the call
 
-facts-err : (r : Result PlannedClip Refusal) (e : Refusal) → as_facts r ≡ Err e → r ≡ Err e
+pub facts-err : (r : Result PlannedClip Refusal) (e : Refusal) → as_facts r ≡ Err e → r ≡ Err e
 facts-err (Ok p) e h = absurd cc
 facts-err (Err d) e h = let same : d ≡ e = cc in ap Err same
 
-facts-ok : (r : Result PlannedClip Refusal) (f : ClipFacts) → as_facts r ≡ Ok f → (p : PlannedClip) × (r ≡ Ok p) × (planned_facts p ≡ f)
+pub facts-ok : (r : Result PlannedClip Refusal) (f : ClipFacts) → as_facts r ≡ Ok f → (p : PlannedClip) × (r ≡ Ok p) × (planned_facts p ≡ f)
 facts-ok (Ok p) f h = let same : planned_facts p ≡ f = cc in (p, refl, same)
 facts-ok (Err d) f h = absurd cc
 
-module _ (c : Cutting) (asked : Asked) (t : Timeline) (sequence : ℕ) (range : Option ByteRange) where
+module _ (c : Cutting) (asked : Asked) (t : Timeline) (sequence : ℕ) (range : Option ByteRange) (movie_reads : List Read) where
   abbrev planned : Result PlannedClip Refusal
   planned = planned_clip c asked t sequence
-
-  abbrev movie_reads : List Read
-  movie_reads = (turns c.files [] (clip_looks sequence t)).reads
 
   abbrev samples_by : Result PlannedClip Refusal → List Read
   samples_by r = result_unwrap_or (r >>= λ clip. checked_part clip range >>= λ part. Ok (part_reads clip part)) []
@@ -166,23 +162,19 @@ module _ (c : Cutting) (asked : Asked) (t : Timeline) (sequence : ℕ) (range : 
   unfolding due_part
   due-is = refl
 
-  reads-is : part_reads_of c asked t sequence range ≡ movie_reads ++ samples_by planned
-  unfolding part_reads_of
-  reads-is = refl
-
   -- there is no clip
   pub whole-refused : (e : Refusal) (log log_now : Option (List Read)) → Came {X = ClipRows} facts_of (Err e) (as_facts planned) movie_reads log log_now
-      → Came {X = ClipPart} part_view (Err e) (due_part c asked t sequence range) (part_reads_of c asked t sequence range) log log_now
+      → Came {X = ClipPart} part_view (Err e) (due_part c asked t sequence range) (movie_reads ++ sample_reads_of c asked t sequence range) log log_now
   whole-refused e log log_now came = record {
     answered = λ known_memory known_store. due-is ∙ ap due_by (facts-err planned e (came.answered known_memory known_store));
-    logged = subst (λ (reads : List Read). LogsReads {X = ClipPart} (Err e) reads log log_now) (sym reads-is)
-        (logs_ended e movie_reads (samples_by planned) log log_now came.logged (λ known_memory known_store. ap samples_by (facts-err planned e (came.answered known_memory known_store))));
+    logged = logs_ended e movie_reads (samples_by planned) log log_now came.logged
+        (λ known_memory known_store. ap samples_by (facts-err planned e (came.answered known_memory known_store)));
   }
 
   -- a part of the clip was read, or refused
   pub whole-found : (rows : ClipRows) (r : Result ClipPart Refusal) (log middle log_now : Option (List Read)) → Came facts_of (Ok rows) (as_facts planned) movie_reads log middle
       → IsSmallClip (facts_of rows) → Came part_view r (held_part c.files range (facts_of rows)) (held_reads range (facts_of rows)) middle log_now
-      → Came part_view r (due_part c asked t sequence range) (part_reads_of c asked t sequence range) log log_now
+      → Came part_view r (due_part c asked t sequence range) (movie_reads ++ sample_reads_of c asked t sequence range) log log_now
   whole-found rows r log middle log_now came small later =
       let found = facts-ok planned (facts_of rows) came.answered in
       let p : PlannedClip = found.0 in
@@ -193,6 +185,5 @@ module _ (c : Cutting) (asked : Asked) (t : Timeline) (sequence : ℕ) (range : 
       ap (held_reads range) (sym found.2) ∙ held_reads-same p small_planned range ∙ sym (ap samples_by found.1) in
       record {
         answered = subst (AnswersUnlessFailed part_view r) due later.answered;
-        logged = subst (λ (reads : List Read). LogsReads r reads log log_now) (sym reads-is)
-            (logs_then r movie_reads (samples_by planned) log middle log_now came.logged (subst (λ (reads : List Read). LogsReads r reads middle log_now) reads later.logged));
+        logged = logs_then r movie_reads (samples_by planned) log middle log_now came.logged (subst (λ (reads : List Read). LogsReads r reads middle log_now) reads later.logged);
       }

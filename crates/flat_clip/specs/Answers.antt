@@ -53,11 +53,14 @@ due_part c asked t sequence range = do
   part ← checked_part clip range
   Ok (planned_part c.files range clip part)
 
--- the reads for it: of the movie of its file, and of the samples
+-- the reads of the samples for it
+abbrev pub sample_reads_of : Cutting → Asked → Timeline → ℕ → Option ByteRange → List Read
+sample_reads_of c asked t sequence range =
+    result_unwrap_or (planned_clip c asked t sequence >>= λ clip. checked_part clip range >>= λ part. Ok (part_reads clip part)) []
+
+-- and those of the movie of its file before them
 unfoldable pub part_reads_of : Cutting → Asked → Timeline → ℕ → Option ByteRange → List Read
-part_reads_of c asked t sequence range =
-    (turns c.files [] (clip_looks sequence t)).reads
-    ++ result_unwrap_or (planned_clip c asked t sequence >>= λ clip. checked_part clip range >>= λ part. Ok (part_reads clip part)) []
+part_reads_of c asked t sequence range = (turns c.files [] (clip_looks sequence t)).reads ++ sample_reads_of c asked t sequence range
 
 -- ---- the same by what is kept of it
 

@@ -16,4 +16,7 @@ mod tables;
 mod times;
 mod tracks;
 
-pub use part::{ClipPart, clip_part};
+pub use part::{ClipPart, clip_part, rows_part};
+pub use rows::{ClipRows, one_piece};
+pub use sample::ClipSample;
+pub use tracks::TrackRows;

@@ -61,13 +61,16 @@ pub fn clip_part<S: Store>(
     ensures refused { IfErr result (IsClipRefusal range) }
 {
     match clip_rows(alloc, files, timeline, sequence, asked, edits) {
-        Ok(rows) => part_of(alloc, files, &rows, range),
+        Ok(rows) => rows_part(alloc, files, &rows, range),
         Err(refusal) => Err(refusal),
     }
 }
 
-// The part of a clip that a range asks for.
-fn part_of<S: Store>(
+/// The part that a range asks for of the clip of these rows. Of their file, which has so many bytes, the bytes of samples that are
+/// in the part are read.
+///
+/// Refused with `BadRange`, `SampleTooLong` and `OutOfFile` as the part of a sequence's clip.
+pub fn rows_part<S: Store>(
     alloc: Global,
     files: &mut S,
     rows: &ClipRows,

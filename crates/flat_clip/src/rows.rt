@@ -37,11 +37,11 @@ use vod_types::{Asked, Kind, Name, Refusal};
 
 /// The clip of a piece: the name of its file and its size in bytes, and the asked tracks with their selected samples.
 #[derive(Debug, Drop)]
-pub(crate) struct ClipRows {
-    pub(crate) name: Name,
-    pub(crate) file_size: u64,
-    pub(crate) video: TrackRows,
-    pub(crate) audio: TrackRows,
+pub struct ClipRows {
+    pub name: Name,
+    pub file_size: u64,
+    pub video: TrackRows,
+    pub audio: TrackRows,
 }
 
 /// The rows of the clip of a sequence with this timeline, with the edits of its tracks where `edits` are honoured. The movie of
@@ -82,8 +82,8 @@ pub(crate) fn clip_rows<S: Store>(
     }
 }
 
-// The one piece of a timeline.
-fn one_piece(timeline: &Timeline, sequence: u32) -> Result<&Piece, Refusal>
+/// The one piece of a timeline. Refused with `ManyPieces`, and with `NothingSelected`, of the sequence, where there is none.
+pub fn one_piece(timeline: &Timeline, sequence: u32) -> Result<&Piece, Refusal>
     ensures piece { IfOk result (λ piece. one_piece_of sequence timeline.now ≡ Ok piece.now) }
     ensures each { IfOk result (λ piece. IsPiece piece.now) }
     ensures fault { IfErr result (λ refusal. one_piece_of sequence timeline.now ≡ Err refusal) }

@@ -7,14 +7,14 @@ use std::marker::Model;
 /// A selected sample: its number in its track from 0, its place and its size in the file in bytes, when it is decoded and when it
 /// is shown in 1/90000 s, how long it lasts, and whether it is a sync sample. Its place may lie past the end of every file.
 #[derive(Clone, Copy, Debug)]
-pub(crate) struct ClipSample {
-    pub(crate) number: u64,
-    pub(crate) at: u128,
-    pub(crate) size: u32,
-    pub(crate) dts: i64,
-    pub(crate) pts: i64,
-    pub(crate) dur: u32,
-    pub(crate) sync: bool,
+pub struct ClipSample {
+    pub number: u64,
+    pub at: u128,
+    pub size: u32,
+    pub dts: i64,
+    pub pts: i64,
+    pub dur: u32,
+    pub sync: bool,
 }
 
 impl Model for ClipSample {
@@ -29,49 +29,49 @@ impl Model for ClipSample {
 
 impl ClipSample {
     /// Its number in its track, from 0.
-    pub(crate) fn number(&self) -> u64
+    pub fn number(&self) -> u64
         ensures { result ≡ self.now.number }
     {
         self.number
     }
 
     /// Its place in the file.
-    pub(crate) fn at(&self) -> u128
+    pub fn at(&self) -> u128
         ensures { result ≡ self.now.sample.at }
     {
         self.at
     }
 
     /// How many bytes it has.
-    pub(crate) fn size(&self) -> u32
+    pub fn size(&self) -> u32
         ensures { result ≡ self.now.sample.size }
     {
         self.size
     }
 
     /// When it is decoded, in 1/90000 s.
-    pub(crate) fn dts(&self) -> i64
+    pub fn dts(&self) -> i64
         ensures { result ≡ self.now.sample.dts }
     {
         self.dts
     }
 
     /// When it is shown, in 1/90000 s.
-    pub(crate) fn pts(&self) -> i64
+    pub fn pts(&self) -> i64
         ensures { result ≡ self.now.sample.pts }
     {
         self.pts
     }
 
     /// How long it lasts, in 1/90000 s.
-    pub(crate) fn dur(&self) -> u32
+    pub fn dur(&self) -> u32
         ensures { result ≡ self.now.sample.dur }
     {
         self.dur
     }
 
     /// Whether it is a sync sample.
-    pub(crate) fn is_sync(&self) -> bool
+    pub fn is_sync(&self) -> bool
         ensures { result ≡ self.now.sample.sync }
     {
         self.sync

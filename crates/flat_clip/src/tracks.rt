@@ -16,11 +16,11 @@ use vod_types::Kind;
 
 /// A track of a clip: its sample entry, the width and the height of its picture, and its rows. Without rows it is left out.
 #[derive(Debug, Drop)]
-pub(crate) struct TrackRows {
-    pub(crate) entry: Vec<u8>,
-    pub(crate) width: u16,
-    pub(crate) height: u16,
-    pub(crate) rows: Vec<ClipSample>,
+pub struct TrackRows {
+    pub entry: Vec<u8>,
+    pub width: u16,
+    pub height: u16,
+    pub rows: Vec<ClipSample>,
 }
 
 /// `trak` of a track that has rows, which stand at these places, beside these rows of the lead; nothing of a track without

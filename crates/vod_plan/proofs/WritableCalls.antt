@@ -102,7 +102,7 @@ said_of_file edits asked piece m c e =
     let made : CheckedPiece = record { piece = piece; file_size = m.place.file_size; video = video.0; audio = audio.0; video_edit = video_edit.0; audio_edit = audio_edit.0 } in
     let same : made ≡ c = (let e = audio_edit.2 in cc) in (sym (ap (λ (c : CheckedPiece). c.piece.name) same), sym (ap (λ (c : CheckedPiece). c.file_size) same))
 
-checked_long : (files : Files) (edits : Bool) (asked : Asked) (piece : Piece) (c : CheckedPiece) → checked files edits asked piece ≡ Ok c → length (bytes_of files c.piece.name) ≡ c.file_size
+pub checked_long : (files : Files) (edits : Bool) (asked : Asked) (piece : Piece) (c : CheckedPiece) → checked files edits asked piece ≡ Ok c → length (bytes_of files c.piece.name) ≡ c.file_size
 unfolding checked
 checked_long files edits asked piece c e =
     let m = bind_ok (loaded files piece.name) _ c e in

@@ -6,7 +6,7 @@ use Rattle.flat_clip.specs.Parts.{row_part, row_reads, LiesIf}
 use Rattle.flat_clip.specs.Rows.{facts_of}
 use Rattle.flat_clip.specs.Tracks.{placed_view}
 use Rattle.flat_clip.proofs.PartCalls.{all-lie, found-sound, part-cut, part-read, part-refused}
-use Rattle.flat_clip.proofs.part.part_of.Goals as goal
+use Rattle.flat_clip.proofs.part.rows_part.Goals as goal
 
 pub returns-in-Err-clause-told : goal.returns-in-Err-clause-told
 returns-in-Err-clause-told g c =
