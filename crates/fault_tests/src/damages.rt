@@ -156,7 +156,12 @@ fn as_many_samples_as_may_be_are_written(rt: HostRuntime) -> Result<(), Fail> {
 
 // A film of so many samples of 0 bytes and one tick.
 fn store_of_silence(alloc: Global, count: u32) -> Result<MemStore, Fail> {
-    store_of(alloc, "/r/f.mp4", silence(alloc, count, 1)?, Vec::new(alloc))
+    store_of(
+        alloc,
+        "/r/f.mp4",
+        silence(alloc, count, 1)?,
+        Vec::new(alloc),
+    )
 }
 
 #[test]
