@@ -6,6 +6,9 @@ use Rattle.std.specs.Rc.{rc_value}
 use Rattle.vod_types.specs.declared.tracks.Kind.TheVariants.{Audio, Video}
 use Rattle.media_model.specs.Fragment.{sizes}
 use Rattle.clip_model.specs.declared.Piece.{Piece}
+use Rattle.vod_plan.specs.Spans.{piece_view}
+use Rattle.vod_plan.specs.Tracks.{checked_view}
+use Rattle.vod_plan.proofs.FoundLemmas.{kept_in}
 use Rattle.mp4_clip.specs.Counts.{HaveRoom}
 use Rattle.mp4_clip.specs.Kept.{checked_of, clip_of}
 use Rattle.mp4_clip.proofs.DueClip.{checked-is, due-clip, due-counts, due-large, piece-kept}
@@ -36,6 +39,8 @@ invariant_of-result g c =
       rows = s.kept;
       video = c.in-Ok.ensures.video;
       audio = c.in-Ok.ensures.audio;
+      video_kept = kept_in Video (checked_view c.args.piece.now c.args.tracks) (piece_view p) s.selected;
+      audio_kept = kept_in Audio (checked_view c.args.piece.now c.args.tracks) (piece_view p) s.selected;
       bytes = omega (arith, c.in-Some.ensures.bytes, c.if-bytes-gt1099511627776.false);
       references = planned-references (clip_of c.args.piece.now p) room.0 room.1;
       start = c.in-Some-media_start.ensures.start;
