@@ -1,1 +1,5 @@
+use Rattle.rehearsal_laws.proofs.MappingText.{mapping_is}
 use Rattle.rehearsal_laws.proofs.every_number_is_listed.Goals as goal
+
+pub returns : goal.returns
+returns c = let m = mapping_is in ?
