@@ -1,1 +1,5 @@
 mod MappingText
+mod Ranges
+mod Tables
+mod Room
+mod Movies
