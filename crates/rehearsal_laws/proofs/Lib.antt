@@ -3,3 +3,4 @@ mod Ranges
 mod Tables
 mod Room
 mod Movies
+mod Checked

@@ -1,5 +1,5 @@
 -- What holds of each number holds of what is made of the numbers of a range.
-use Rattle.std.proofs.Common.{◌≡◌, ℕ, zero, suc, ◌+◌, ◌*◌, ◌<◌, ◌≤◌, Bool, true, false, cond, List, [], ◌∷◌, length, map, filter, Option, Some, refl, sym, subst, arith}
+use Rattle.std.proofs.Common.{◌≡◌, ℕ, zero, suc, ◌+◌, ◌*◌, ◌<◌, ◌≤◌, Bool, true, false, cond, List, [], ◌∷◌, length, map, filter, Option, Some, None, refl, sym, subst, arith}
 use Rattle.std.specs.Prelude.{option_map, sum_by, nat_lt, IfSome}
 use Rattle.std.specs.List.{range_with_len, AllByRecursion, list_all}
 use Rattle.std.proofs.lemmas.Bool.{lt-ltb, le-leb}
@@ -65,5 +65,9 @@ few_numbers p s (suc k) = go (p s) (few_numbers p (s + 1) k)
 -- ---- what is given under a view
 
 pub given : {V X : Type 0} (view : V → X) (P : X → Type 0) (o : Option V) (x : X) → option_map view o ≡ Some x → P x → IfSome o (λ v. P (view v))
-given view P Option.None x e h = tt
+given view P None x e h = tt
 given view P (Some v) x e h = subst P (sym (same_Some (view v) x e)) h
+
+pub not_given : {V X : Type 0} (view : V → X) (P : X → Type 0) (o : Option V) → option_map view o ≡ None → IfSome o (λ v. P (view v))
+not_given view P None e = tt
+not_given view P (Some v) e = absurd cc

@@ -1,0 +1,139 @@
+-- A piece of the movie of a number has no fault.
+use Rattle.std.proofs.Common.{◌≡◌, ℕ, ◌+◌, ◌*◌, ◌^◌, ◌<◌, ◌≤◌, Bool, true, false, cond, List, [], ◌∷◌, ◌++◌, length, map, Option, Some, None, Ok, refl, sym, ap, subst, ◌∙◌, arith, length-append}
+use Rattle.std.specs.Prelude.{codes, flat_map, slice_get, ok_or}
+use Rattle.std.proofs.lemmas.Option.{same_Some}
+use Rattle.vod_types.specs.declared.tracks.Asked.{Asked}
+use Rattle.vod_types.specs.declared.tracks.Kind.{Kind}
+use Rattle.vod_types.specs.declared.tracks.Kind.TheVariants.{Video, Audio}
+use Rattle.vod_types.specs.declared.tracks.TrackName.{TrackName}
+use Rattle.vod_types.specs.Tracks.{default_tracks, exposed_track, same_kind}
+use Rattle.vod_types.proofs.StepLemmas.{bind_ok, ok_or_ok}
+use Rattle.media_model.proofs.Boxes.{placed, length-box}
+use Rattle.mp4_model.specs.Boxes.{PlacedBox}
+use Rattle.mp4_model.specs.Edits.{no_edit, track_edit, edit_view}
+use Rattle.mp4_model.specs.Entries.{SampleEntry, sample_entry}
+use Rattle.mp4_model.specs.GoodTracks.{GoodTrack, good_track, read_timescale, table_in, track_view}
+use Rattle.mp4_model.specs.Movie.{Movie, movie}
+use Rattle.mp4_model.specs.Tracks.{Track, named_track, tracks_of_kind}
+use Rattle.clip_model.specs.declared.Piece.{Piece}
+use Rattle.vod_source.specs.Stored.{Files, file_named}
+use Rattle.origin_model.specs.Loaded.{CheckedPiece, asked_edit, asked_track, checked, file_has, loaded, shown_edit, shown_track, track_of_kind}
+use Rattle.vod_gen.specs.declared.spec.TrackSpec.{TrackSpec}
+use Rattle.vod_gen.specs.declared.spec.MovieSpec.{MovieSpec}
+use Rattle.vod_gen.specs.BuiltTracks.{KeepsRules, stated_track}
+use Rattle.vod_gen.specs.MovieFile.{bytes_if, file_type, kind_bytes, media, media_start, movie_box, movie_file, movie_header, sample_bytes, track_boxes}
+use Rattle.vod_gen.specs.Numbered.{TrackLists, lists_of, audio_track, video_track, numbered_tracks}
+use Rattle.vod_gen.proofs.FileRoom.{all_fit, length-file}
+use Rattle.vod_gen.proofs.MovieRead.{AllFit, TrakFits, file_read, first_trak, mdia_place, moov-spelled, moov_payload, place_of, read_movie, read_tracks, track_at, trak_payload}
+use Rattle.vod_gen.proofs.TrackRead.{mdia_list, track_read}
+use Rattle.rehearsal_laws.specs.Films.{rehearsal_files}
+use Rattle.rehearsal_laws.proofs.Movies.{video_keeps, video_taken, video_media, video_small, audio_keeps, audio_taken, audio_media, audio_small}
+use Rattle.rehearsal_laws.proofs.Room.{movie_room}
+
+-- ---- a track among two
+
+abbrev first_of_kind : Kind → TrackName
+first_of_kind kind = track_of_kind kind 1
+
+named_video : (v a : Track) → v.kind ≡ Video → a.kind ≡ Audio → named_track (v ∷ a ∷ []) (first_of_kind Video) ≡ Some v
+unfolding named_track tracks_of_kind
+named_video v a is-video is-audio = rw (is-video, is-audio) refl
+
+named_audio : (v a : Track) → v.kind ≡ Video → a.kind ≡ Audio → named_track (v ∷ a ∷ []) (first_of_kind Audio) ≡ Some a
+unfolding named_track tracks_of_kind
+named_audio v a is-video is-audio = rw (is-video, is-audio) refl
+
+has_timescale : (kind : Kind) (mdia : List PlacedBox) (g : GoodTrack) → good_track kind mdia ≡ Ok g → (timescale : ℕ) × (table_in mdia (codes "mdhd") read_timescale ≡ Some timescale)
+unfolding good_track
+has_timescale kind mdia g e =
+    let read = bind_ok (ok_or (table_in mdia (codes "mdhd") read_timescale) _) _ g e in
+    (read.0, ok_or_ok (table_in mdia (codes "mdhd") read_timescale) _ read.0 read.1)
+
+-- what is read of a track that keeps the rules
+module _ (tracks : List Track) (moov : List ℕ) (kind : Kind) (at number place : ℕ) (t : TrackSpec) (used : SampleEntry) (named : named_track tracks (first_of_kind kind) ≡ Some (track_at at number place t)) where
+  viewed : good_track t.kind (track_at at number place t).mdia ≡ Ok (stated_track place t used) → track_view tracks (first_of_kind kind) ≡ Ok (stated_track place t used)
+  unfolding track_view
+  viewed good = rw named good
+
+  unedited : good_track t.kind (track_at at number place t).mdia ≡ Ok (stated_track place t used) → edit_view moov tracks (first_of_kind kind) ≡ Ok no_edit
+  unfolding edit_view track_edit
+  unedited good = let timescale = has_timescale t.kind (track_at at number place t).mdia (stated_track place t used) good in rw (named, timescale.1) refl
+
+-- ---- a piece that asks for it
+
+module _ (piece : Piece) (m : Movie) (kind : Kind) (track : Track) (g : GoodTrack) (default : piece.tracks ≡ default_tracks) (named : named_track m.tracks (first_of_kind kind) ≡ Some track) where
+  exposed : exposed_track (file_has m) piece.tracks (first_of_kind kind) ≡ Some (first_of_kind kind)
+  exposed = ap (λ tracks. exposed_track (file_has m) tracks (first_of_kind kind)) default ∙ go kind named
+    where
+      go : (k : Kind) → named_track m.tracks (first_of_kind k) ≡ Some track → exposed_track (file_has m) default_tracks (first_of_kind k) ≡ Some (first_of_kind k)
+      go Video e = rw e refl
+      go Audio e = rw e refl
+
+  shown : track_view m.tracks (first_of_kind kind) ≡ Ok g → shown_track piece m (first_of_kind kind) ≡ Ok g
+  unfolding shown_track
+  shown view = rw (exposed, view) refl
+
+  plain : edit_view m.moov m.tracks (first_of_kind kind) ≡ Ok no_edit → shown_edit piece m (first_of_kind kind) ≡ Ok no_edit
+  unfolding shown_edit
+  plain edit = rw (exposed, edit) refl
+
+-- ---- the movie of a number
+
+abbrev pub both_tracks : Asked
+both_tracks = record { video = Some 1; audio = Some 1 }
+
+two_of : (ts : List TrackSpec) (x y : TrackLists) → map lists_of ts ≡ x ∷ y ∷ [] → (v : TrackSpec) × (a : TrackSpec) × (ts ≡ v ∷ a ∷ []) × (lists_of v ≡ x) × (lists_of a ≡ y)
+two_of [] x y e = absurd (omega (arith, ap length e))
+two_of (v ∷ []) x y e = absurd (omega (arith, ap length e))
+two_of (v ∷ a ∷ []) x y e = (v, a, refl, same_Some _ _ (ap (λ l. slice_get l 0) e), same_Some _ _ (ap (λ l. slice_get l 1) e))
+two_of (v ∷ a ∷ b ∷ ts) x y e = absurd (omega (arith, ap length e))
+
+few_bytes : (kind : Kind) (t : TrackSpec) → length (bytes_if kind t) ≤ length (sample_bytes t)
+few_bytes kind t = go (same_kind t.kind kind)
+  where
+    go : (b : Bool) → length (cond b (sample_bytes t) []) ≤ length (sample_bytes t)
+    go true = omega arith
+    go false = omega arith
+
+few_of_kind : (kind : Kind) (v a : TrackSpec) → length (kind_bytes kind (v ∷ a ∷ [])) ≤ length (sample_bytes v) + length (sample_bytes a)
+unfolding kind_bytes
+few_of_kind kind v a = omega (arith, length-append (bytes_if kind v) (bytes_if kind a ++ []), length-append (bytes_if kind a) [], few_bytes kind v, few_bytes kind a)
+
+media_room : (v a : TrackSpec) → length (media (v ∷ a ∷ [])) ≤ 2 * (length (sample_bytes v) + length (sample_bytes a))
+unfolding media
+media_room v a = omega (arith, length-append (kind_bytes Video (v ∷ a ∷ [])) (kind_bytes Audio (v ∷ a ∷ [])), few_of_kind Video v a, few_of_kind Audio v a)
+
+moov_within : (start : ℕ) (tracks : List TrackSpec) → length (track_boxes start tracks [] tracks) ≤ length (movie_box start tracks)
+unfolding movie_box
+moov_within start tracks =
+    omega (arith, length-box (codes "moov") (movie_header (length tracks) ++ track_boxes start tracks [] tracks) refl, length-append (movie_header (length tracks)) (track_boxes start tracks [] tracks))
+
+type_length : length file_type ≡ 24
+unfolding file_type
+type_length = refl
+
+module _ (n : ℕ) (spec : MovieSpec) (v a : TrackSpec) (split : spec.tracks.items ≡ v ∷ a ∷ []) (is-video : lists_of v ≡ video_track n) (is-audio : lists_of a ≡ audio_track n) where
+  moov_short : (start : ℕ) → length (movie_box start spec.tracks.items) ≤ 2001000
+  moov_short start = subst (λ ts. length (movie_box start ts) ≤ 2001000) (sym split) (movie_room start v a (video_small n v is-video) (audio_small n a is-audio))
+
+  media_short : length (media spec.tracks.items) ≤ 20000000
+  media_short =
+      subst (λ ts. length (media ts) ≤ 20000000) (sym split)
+      (let room = media_room v a in let video = video_media n v is-video in let audio = audio_media n a is-audio in omega (arith, room, video, audio))
+
+  start_short : media_start spec.tracks.items ≤ 2002000
+  start_short = omega (arith, type_length, moov_short 0)
+
+  fits : AllFit (media_start spec.tracks.items) spec.tracks.items [] spec.tracks.items
+  fits =
+      all_fit (media_start spec.tracks.items) spec.tracks.items [] spec.tracks.items refl (omega (arith, start_short, media_short))
+      (omega (arith, moov_within (media_start spec.tracks.items) spec.tracks.items, moov_short (media_start spec.tracks.items)))
+
+  movie_is : movie (movie_file spec) ≡ Ok (read_movie spec)
+  movie_is =
+      file_read spec
+      (omega (
+        arith, moov_short (media_start spec.tracks.items), ap length (moov-spelled (media_start spec.tracks.items) spec.tracks.items),
+        length-box (codes "moov") (moov_payload (media_start spec.tracks.items) spec.tracks.items) refl,
+      ))
+      (omega (arith, length-file spec, start_short, media_short)) fits
