@@ -17,9 +17,10 @@ use Rattle.mp4_model.specs.Movie.{Movie, movie}
 use Rattle.mp4_model.specs.Tracks.{Track, named_track, tracks_of_kind}
 use Rattle.clip_model.specs.declared.Piece.{Piece}
 use Rattle.vod_source.specs.Stored.{Files, file_named}
-use Rattle.origin_model.specs.Loaded.{CheckedPiece, asked_edit, asked_track, checked, file_has, loaded, shown_edit, shown_track, track_of_kind}
+use Rattle.origin_model.specs.Loaded.{CheckedPiece, asked_edit, asked_track, checked, checked_in, file_has, loaded, shown_edit, shown_track, track_of_kind}
 use Rattle.vod_gen.specs.declared.spec.TrackSpec.{TrackSpec}
 use Rattle.vod_gen.specs.declared.spec.MovieSpec.{MovieSpec}
+use Rattle.vod_gen.specs.Entries.{avc_configuration}
 use Rattle.vod_gen.specs.BuiltTracks.{KeepsRules, stated_track}
 use Rattle.vod_gen.specs.MovieFile.{bytes_if, file_type, kind_bytes, media, media_start, movie_box, movie_file, movie_header, sample_bytes, track_boxes}
 use Rattle.vod_gen.specs.Numbered.{TrackLists, lists_of, audio_track, video_track, numbered_tracks}
@@ -35,9 +36,9 @@ use Rattle.rehearsal_laws.proofs.Room.{movie_room}
 abbrev first_of_kind : Kind → TrackName
 first_of_kind kind = track_of_kind kind 1
 
-named_video : (v a : Track) → v.kind ≡ Video → a.kind ≡ Audio → named_track (v ∷ a ∷ []) (first_of_kind Video) ≡ Some v
+named_video : (v a : Track) → v.kind ≡ Video → named_track (v ∷ a ∷ []) (first_of_kind Video) ≡ Some v
 unfolding named_track tracks_of_kind
-named_video v a is-video is-audio = rw (is-video, is-audio) refl
+named_video v a is-video = rw is-video refl
 
 named_audio : (v a : Track) → v.kind ≡ Video → a.kind ≡ Audio → named_track (v ∷ a ∷ []) (first_of_kind Audio) ≡ Some a
 unfolding named_track tracks_of_kind
@@ -137,3 +138,82 @@ module _ (n : ℕ) (spec : MovieSpec) (v a : TrackSpec) (split : spec.tracks.ite
         length-box (codes "moov") (moov_payload (media_start spec.tracks.items) spec.tracks.items) refl,
       ))
       (omega (arith, length-file spec, start_short, media_short)) fits
+
+  abbrev video_place : ℕ
+  video_place = place_of (media_start spec.tracks.items) spec.tracks.items [] v
+
+  abbrev audio_place : ℕ
+  audio_place = place_of (media_start spec.tracks.items) spec.tracks.items (v ∷ []) a
+
+  abbrev video_at : ℕ
+  video_at = first_trak spec.tracks.items
+
+  abbrev audio_at : ℕ
+  audio_at = first_trak spec.tracks.items + (8 + length (trak_payload 1 (place_of (media_start spec.tracks.items) spec.tracks.items [] v) v))
+
+  video_fits : TrakFits 1 (place_of (media_start spec.tracks.items) spec.tracks.items [] v) v
+  video_fits = (subst (AllFit (media_start spec.tracks.items) spec.tracks.items []) split fits).0
+
+  audio_fits : TrakFits 2 (place_of (media_start spec.tracks.items) spec.tracks.items (v ∷ []) a) a
+  audio_fits = (subst (AllFit (media_start spec.tracks.items) spec.tracks.items []) split fits).1.0
+
+  two_read : (read_movie spec).tracks ≡ track_at video_at 1 video_place v ∷ track_at audio_at 2 audio_place a ∷ []
+  two_read = ap (read_tracks (first_trak spec.tracks.items) (media_start spec.tracks.items) spec.tracks.items []) split
+
+  is_video : v.kind ≡ Video
+  is_video = ap (λ l. l.kind) is-video
+
+  is_audio : a.kind ≡ Audio
+  is_audio = ap (λ l. l.kind) is-audio
+
+  video_named : named_track (read_movie spec).tracks (first_of_kind Video) ≡ Some (track_at video_at 1 video_place v)
+  video_named = ap (λ ts. named_track ts (first_of_kind Video)) two_read ∙ named_video (track_at video_at 1 video_place v) (track_at audio_at 2 audio_place a) is_video
+
+  audio_named : named_track (read_movie spec).tracks (first_of_kind Audio) ≡ Some (track_at audio_at 2 audio_place a)
+  audio_named = ap (λ ts. named_track ts (first_of_kind Audio)) two_read ∙ named_audio (track_at video_at 1 video_place v) (track_at audio_at 2 audio_place a) is_video is_audio
+
+  abbrev video_used : SampleEntry
+  video_used = record { config = avc_configuration; width = 640; height = 360 }
+
+  abbrev audio_used : SampleEntry
+  audio_used = record { config = 17 ∷ 144 ∷ []; width = 0; height = 0 }
+
+  video_good : good_track v.kind (track_at video_at 1 video_place v).mdia ≡ Ok (stated_track video_place v video_used)
+  video_good = track_read (mdia_place video_at 1 v + 8) video_place v video_used (video_keeps n v is-video) (video_taken n v is-video) video_fits.track
+
+  audio_good : good_track a.kind (track_at audio_at 2 audio_place a).mdia ≡ Ok (stated_track audio_place a audio_used)
+  audio_good = track_read (mdia_place audio_at 2 a + 8) audio_place a audio_used (audio_keeps n a is-audio) (audio_taken n a is-audio) audio_fits.track
+
+  -- a piece of it has both tracks
+  piece_in : (piece : Piece) → piece.tracks ≡ default_tracks → (c : CheckedPiece) × (checked_in true both_tracks piece (read_movie spec) ≡ Ok c)
+  unfolding asked_track asked_edit
+  piece_in piece default =
+      let m : Movie = read_movie spec in
+      let video = shown piece m Video (track_at video_at 1 video_place v) (stated_track video_place v video_used) default video_named
+      (viewed m.tracks m.moov Video video_at 1 video_place v video_used video_named video_good) in
+      let audio = shown piece m Audio (track_at audio_at 2 audio_place a) (stated_track audio_place a audio_used) default audio_named
+      (viewed m.tracks m.moov Audio audio_at 2 audio_place a audio_used audio_named audio_good) in
+      let video_edit = plain piece m Video (track_at video_at 1 video_place v) (stated_track video_place v video_used) default video_named
+      (unedited m.tracks m.moov Video video_at 1 video_place v video_used video_named video_good) in
+      let audio_edit = plain piece m Audio (track_at audio_at 2 audio_place a) (stated_track audio_place a audio_used) default audio_named
+      (unedited m.tracks m.moov Audio audio_at 2 audio_place a audio_used audio_named audio_good) in
+      let c : CheckedPiece = record {
+        piece = piece;
+        file_size = m.place.file_size;
+        video = Some (stated_track video_place v video_used);
+        audio = Some (stated_track audio_place a audio_used);
+        video_edit = no_edit;
+        audio_edit = no_edit;
+      } in
+      (c, rw (video, audio, video_edit, audio_edit) refl)
+
+  movie_loaded : (file : List ℕ) → file ≡ movie_file spec → loaded (rehearsal_files n file) (codes "/r/m.mp4") ≡ Ok (read_movie spec)
+  unfolding loaded file_named
+  movie_loaded file is = rw (ap movie is ∙ movie_is) refl
+
+  pub piece_checked : (file : List ℕ) → file ≡ movie_file spec → (piece : Piece) → piece.name ≡ codes "/r/m.mp4" → piece.tracks ≡ default_tracks →
+      (c : CheckedPiece) × (checked (rehearsal_files n file) true both_tracks piece ≡ Ok c)
+  unfolding checked
+  piece_checked file is piece name default =
+      let c = piece_in piece default in
+      (c.0, rw (ap (loaded (rehearsal_files n file)) name ∙ movie_loaded file is) c.1)

@@ -4,3 +4,4 @@ mod Tables
 mod Room
 mod Movies
 mod Checked
+mod Parts

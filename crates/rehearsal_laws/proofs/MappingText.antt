@@ -119,10 +119,10 @@ text_read a b f ha hb hf =
 
 -- ---- the mapping
 
-abbrev clip_at : ℕ → Clip
+abbrev pub clip_at : ℕ → Clip
 clip_at f = source (record { path = codes "m.mp4"; tracks = None; clip_from = f })
 
-abbrev two_clips : ℕ → Sequence
+abbrev pub two_clips : ℕ → Sequence
 two_clips f = record { language = None; label = None; video_bitrate = None; audio_bitrate = None; clips = clip_at 0 ∷ clip_at f ∷ [] }
 
 abbrev pub two_clip_mapping : ℕ → ℕ → ℕ → Mapping
