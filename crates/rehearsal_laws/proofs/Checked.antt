@@ -83,7 +83,7 @@ module _ (piece : Piece) (m : Movie) (kind : Kind) (track : Track) (g : GoodTrac
 abbrev pub both_tracks : Asked
 both_tracks = record { video = Some 1; audio = Some 1 }
 
-two_of : (ts : List TrackSpec) (x y : TrackLists) → map lists_of ts ≡ x ∷ y ∷ [] → (v : TrackSpec) × (a : TrackSpec) × (ts ≡ v ∷ a ∷ []) × (lists_of v ≡ x) × (lists_of a ≡ y)
+pub two_of : (ts : List TrackSpec) (x y : TrackLists) → map lists_of ts ≡ x ∷ y ∷ [] → (v : TrackSpec) × (a : TrackSpec) × (ts ≡ v ∷ a ∷ []) × (lists_of v ≡ x) × (lists_of a ≡ y)
 two_of [] x y e = absurd (omega (arith, ap length e))
 two_of (v ∷ []) x y e = absurd (omega (arith, ap length e))
 two_of (v ∷ a ∷ []) x y e = (v, a, refl, same_Some _ _ (ap (λ l. slice_get l 0) e), same_Some _ _ (ap (λ l. slice_get l 1) e))

@@ -5,3 +5,5 @@ mod Room
 mod Movies
 mod Checked
 mod Parts
+mod Planned
+mod Listed

@@ -41,7 +41,7 @@ tree a b f =
     (json.member (codes "sequences") (json.array (json.item (json.object (json.member (codes "clips") (json.array (json.item (source_tree json.no_members)
     (json.item (source_tree (json.member (codes "clipFrom") (json.number (decimal f)) json.no_members)) json.no_items))) json.no_members)) json.no_items)) json.no_members))
 
-abbrev between : List ℕ
+abbrev pub between : List ℕ
 between = codes "],\"sequences\":[{\"clips\":[{\"type\":\"source\",\"path\":\"/m.mp4\"},{\"type\":\"source\",\"path\":\"/m.mp4\",\"clipFrom\":"
 
 abbrev pub mapping_text : ℕ → ℕ → ℕ → List ℕ
