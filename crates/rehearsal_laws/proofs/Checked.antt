@@ -1,6 +1,6 @@
 -- A piece of the movie of a number has no fault.
-use Rattle.std.proofs.Common.{◌≡◌, ℕ, ◌+◌, ◌*◌, ◌^◌, ◌<◌, ◌≤◌, Bool, true, false, cond, List, [], ◌∷◌, ◌++◌, length, map, Option, Some, None, Ok, refl, sym, ap, subst, ◌∙◌, arith, length-append}
-use Rattle.std.specs.Prelude.{codes, flat_map, slice_get, ok_or}
+use Rattle.std.proofs.Common.{◌≡◌, ℕ, ◌+◌, ◌*◌, ◌≤◌, Bool, true, false, cond, List, [], ◌∷◌, ◌++◌, length, map, Some, Ok, refl, sym, ap, subst, ◌∙◌, arith, length-append}
+use Rattle.std.specs.Prelude.{codes, slice_get, ok_or}
 use Rattle.std.proofs.lemmas.Option.{same_Some}
 use Rattle.vod_types.specs.declared.tracks.Asked.{Asked}
 use Rattle.vod_types.specs.declared.tracks.Kind.{Kind}
@@ -8,25 +8,25 @@ use Rattle.vod_types.specs.declared.tracks.Kind.TheVariants.{Video, Audio}
 use Rattle.vod_types.specs.declared.tracks.TrackName.{TrackName}
 use Rattle.vod_types.specs.Tracks.{default_tracks, exposed_track, same_kind}
 use Rattle.vod_types.proofs.StepLemmas.{bind_ok, ok_or_ok}
-use Rattle.media_model.proofs.Boxes.{placed, length-box}
+use Rattle.media_model.proofs.Boxes.{length-box}
 use Rattle.mp4_model.specs.Boxes.{PlacedBox}
 use Rattle.mp4_model.specs.Edits.{no_edit, track_edit, edit_view}
-use Rattle.mp4_model.specs.Entries.{SampleEntry, sample_entry}
+use Rattle.mp4_model.specs.Entries.{SampleEntry}
 use Rattle.mp4_model.specs.GoodTracks.{GoodTrack, good_track, read_timescale, table_in, track_view}
 use Rattle.mp4_model.specs.Movie.{Movie, movie}
 use Rattle.mp4_model.specs.Tracks.{Track, named_track, tracks_of_kind}
 use Rattle.clip_model.specs.declared.Piece.{Piece}
-use Rattle.vod_source.specs.Stored.{Files, file_named}
+use Rattle.vod_source.specs.Stored.{file_named}
 use Rattle.origin_model.specs.Loaded.{CheckedPiece, asked_edit, asked_track, checked, checked_in, file_has, loaded, shown_edit, shown_track, track_of_kind}
 use Rattle.vod_gen.specs.declared.spec.TrackSpec.{TrackSpec}
 use Rattle.vod_gen.specs.declared.spec.MovieSpec.{MovieSpec}
 use Rattle.vod_gen.specs.Entries.{avc_configuration}
-use Rattle.vod_gen.specs.BuiltTracks.{KeepsRules, stated_track}
+use Rattle.vod_gen.specs.BuiltTracks.{stated_track}
 use Rattle.vod_gen.specs.MovieFile.{bytes_if, file_type, kind_bytes, media, media_start, movie_box, movie_file, movie_header, sample_bytes, track_boxes}
-use Rattle.vod_gen.specs.Numbered.{TrackLists, lists_of, audio_track, video_track, numbered_tracks}
+use Rattle.vod_gen.specs.Numbered.{TrackLists, lists_of, audio_track, video_track}
 use Rattle.vod_gen.proofs.FileRoom.{all_fit, length-file}
 use Rattle.vod_gen.proofs.MovieRead.{AllFit, TrakFits, file_read, first_trak, mdia_place, moov-spelled, moov_payload, place_of, read_movie, read_tracks, track_at, trak_payload}
-use Rattle.vod_gen.proofs.TrackRead.{mdia_list, track_read}
+use Rattle.vod_gen.proofs.TrackRead.{track_read}
 use Rattle.rehearsal_laws.specs.Films.{rehearsal_files}
 use Rattle.rehearsal_laws.proofs.Movies.{video_keeps, video_taken, video_media, video_small, audio_keeps, audio_taken, audio_media, audio_small}
 use Rattle.rehearsal_laws.proofs.Room.{movie_room}
@@ -134,7 +134,9 @@ module _ (n : ℕ) (spec : MovieSpec) (v a : TrackSpec) (split : spec.tracks.ite
   movie_is =
       file_read spec
       (omega (
-        arith, moov_short (media_start spec.tracks.items), ap length (moov-spelled (media_start spec.tracks.items) spec.tracks.items),
+        arith,
+        moov_short (media_start spec.tracks.items),
+        ap length (moov-spelled (media_start spec.tracks.items) spec.tracks.items),
         length-box (codes "moov") (moov_payload (media_start spec.tracks.items) spec.tracks.items) refl,
       ))
       (omega (arith, length-file spec, start_short, media_short)) fits

@@ -1,6 +1,6 @@
 -- The movie of a number is accepted: what is read of its file.
-use Rattle.std.proofs.Common.{◌≡◌, ℕ, ◌+◌, ◌*◌, ◌^◌, ◌<◌, ◌≤◌, Bool, true, false, cond, eqb, ne_eqb, FitsSigned, pos, List, [], ◌∷◌, ◌++◌, length, map, Option, Some, None, Ok, refl, sym, ap, ap₂, subst, ◌∙◌, arith, length-append}
-use Rattle.std.specs.Prelude.{◌-◌, ◌%◌, codes, flat_map, option_map, replicate, sum_by}
+use Rattle.std.proofs.Common.{◌≡◌, ℕ, ◌+◌, ◌*◌, ◌^◌, ◌<◌, ◌≤◌, false, eqb, ne_eqb, FitsSigned, pos, List, [], ◌∷◌, length, map, Some, refl, sym, ap, ap₂, subst, ◌∙◌, arith, length-append}
+use Rattle.std.specs.Prelude.{◌-◌, ◌%◌, flat_map, option_map, replicate, sum_by}
 use Rattle.std.proofs.lemmas.List.{length-replicate}
 use Rattle.vod_bytes.specs.Fields.{be32}
 use Rattle.vod_gen.specs.Tables.{offset_table, sync_table}
@@ -11,16 +11,14 @@ use Rattle.std.proofs.lemmas.Int.{fits_signed_from_abs}
 use Rattle.std.proofs.lemmas.List.{length-map}
 use Rattle.std.proofs.lemmas.List.Concat.{length-flat_map}
 use Rattle.std.proofs.lemmas.List.Sums.{sum_by-cons}
-use Rattle.vod_types.specs.declared.tracks.Kind.TheVariants.{Video, Audio}
 use Rattle.mp4_model.specs.Entries.{sample_entry}
 use Rattle.mp4_model.specs.Tables.{SampleTables}
 use Rattle.mp4_model.specs.Validity.{first_broken_table}
 use Rattle.mp4_model.specs.GoodTracks.{total_units}
 use Rattle.vod_gen.specs.declared.spec.TrackSpec.{TrackSpec}
-use Rattle.vod_gen.specs.declared.spec.MovieSpec.{MovieSpec}
 use Rattle.vod_gen.specs.Entries.{aac_entry, avc_entry, avc_configuration}
 use Rattle.vod_gen.specs.MovieFile.{sample_bytes}
-use Rattle.vod_gen.specs.Numbered.{TrackLists, lists_of, video_length, video_header, audio_sample, audio_samples, audio_track, is_sync, sync_numbers, video_count, video_runs, video_sample, video_samples, video_track}
+use Rattle.vod_gen.specs.Numbered.{TrackLists, lists_of, video_length, video_header, audio_sample, audio_samples, audio_track, is_sync, sync_numbers, video_count, video_sample, video_samples, video_track}
 use Rattle.vod_gen.specs.BuiltTracks.{HasFields, KeepsRules, stated_tables}
 use Rattle.rehearsal_laws.proofs.Ranges.{each_number, few_numbers, given, not_given, sum_made}
 use Rattle.rehearsal_laws.proofs.Tables.{video_many, few_runs, runs_fit, video_tables, length-video_samples, video_is_good, video_is_short, audio_tables, length-audio_samples, audio_is_good, audio_is_short}
@@ -118,8 +116,11 @@ module _ (n : ℕ) (t : TrackSpec) (is : lists_of t ≡ video_track n) where
     durations = omega (arith, ap length (same_stts t (video_track n) is), few_runs n);
     offsets = omega (arith, ap length (table_given offset_table (λ runs. runs.items) t.ctts ((video_count n, pos 2) ∷ []) (same_ctts t (video_track n) is)), offset_room ((video_count n, pos 2) ∷ []));
     numbers = omega (
-      arith, ap length (table_given sync_table (λ numbers. numbers.items) t.stss (sync_numbers n) (same_stss t (video_track n) is)), sync_room (sync_numbers n),
-      few_numbers (is_sync n) 0 (video_count n), (video_many n).1,
+      arith,
+      ap length (table_given sync_table (λ numbers. numbers.items) t.stss (sync_numbers n) (same_stss t (video_track n) is)),
+      sync_room (sync_numbers n),
+      few_numbers (is_sync n) 0 (video_count n),
+      (video_many n).1,
     );
     samples = omega (arith, same_count t (video_track n) is, length-video_samples n, (video_many n).1);
   }

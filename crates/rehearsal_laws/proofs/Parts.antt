@@ -1,17 +1,15 @@
 -- The timeline of two clips of the movie: each of its pieces is of the movie, and its parts have few cells.
-use Rattle.std.proofs.Common.{◌≡◌, ℕ, zero, suc, ◌+◌, ◌-◌, ◌*◌, ◌<◌, ◌≤◌, Bool, true, false, cond, ltb, eqb, List, [], ◌∷◌, ◌++◌, length, map, filter, Option, Some, None, Ok, ℤ, pos, refl, sym, ap, subst, ◌∙◌, arith, length-append}
-use Rattle.std.specs.Prelude.{codes, max, is_some, int_lt, sum, flat_map}
-use Rattle.std.specs.List.{enumerate_from, list_all, AllByRecursion}
+use Rattle.std.proofs.Common.{◌≡◌, ℕ, ◌+◌, ◌-◌, ◌<◌, Bool, true, false, cond, ltb, eqb, List, [], ◌∷◌, ◌++◌, length, map, Some, None, Ok, pos, refl, ap, arith, length-append}
+use Rattle.std.specs.Prelude.{codes, max, flat_map}
+use Rattle.std.specs.List.{enumerate_from, AllByRecursion}
 use Rattle.std.proofs.lemmas.Bool.{lt-ltb, ne_eqb}
 use Rattle.std.proofs.lemmas.Int.{ints}
 use Rattle.vod_types.specs.declared.paths.Window.{Window}
 use Rattle.vod_types.specs.Tracks.{default_tracks}
-use Rattle.vod_types.specs.Files.{store_name}
 use Rattle.clip_model.specs.declared.Part.{Part}
 use Rattle.clip_model.specs.declared.Piece.{Piece}
-use Rattle.clip_model.specs.Mapping.{Mapping, Sequence, sequence_at}
-use Rattle.clip_model.specs.Timeline.{Placed, Span, Timeline, is_lasting, kept_spans, parts_from, placed_clips, placed_pieces, sequence_timeline, source_piece, spans, timeline_of, timeline_of_spans, windowed_span, with_pieces}
-use Rattle.clip_model.specs.Trim.{is_left, trimmed, windowed}
+use Rattle.clip_model.specs.Timeline.{Placed, Span, Timeline, kept_spans, placed_clips, placed_pieces, sequence_timeline, source_piece, spans, timeline_of, timeline_of_spans, windowed_span, with_pieces}
+use Rattle.clip_model.specs.Trim.{units, is_left, trimmed, windowed}
 use Rattle.clip_model.proofs.ClipChains.{each-append}
 use Rattle.rehearsal_laws.proofs.MappingText.{clip_at, two_clip_mapping, two_clips}
 
@@ -72,6 +70,12 @@ module _ (a b f : ℕ) (some-a : 0 < a) (some-b : 0 < b) where
 
   abbrev pub found_timeline : Timeline
   found_timeline = timeline_of_spans ((lone_span first, pieces_of 0 first) ∷ (lone_span second, pieces_of 1 second) ∷ [])
+
+  abbrev pub first_part : Part
+  first_part = record { start = units (pos (lone_span first).start); length_ms = (lone_span first).length; first = 0; count = length (pieces_of 0 first) }
+
+  abbrev pub second_part : Part
+  second_part = record { start = units (pos (lone_span second).start); length_ms = (lone_span second).length; first = 0 + length (pieces_of 0 first); count = length (pieces_of 1 second) }
 
   timeline_is : sequence_timeline (codes "/r") default_tracks (two_clip_mapping a b f) whole (two_clips f) ≡ found_timeline
   unfolding sequence_timeline

@@ -1,5 +1,5 @@
 -- How long the boxes of a track are at most.
-use Rattle.std.proofs.Common.{◌≡◌, ℕ, ℤ, ◌+◌, ◌*◌, ◌<◌, ◌≤◌, Bool, true, false, cond, eqb, List, [], ◌∷◌, ◌++◌, length, Option, Some, None, refl, sym, ap, ◌∙◌, arith, length-append}
+use Rattle.std.proofs.Common.{◌≡◌, ℕ, ℤ, ◌+◌, ◌*◌, ◌≤◌, Bool, true, false, cond, eqb, List, [], ◌∷◌, ◌++◌, length, Option, Some, None, refl, ap, arith, length-append}
 use Rattle.std.specs.Prelude.{codes, flat_map, option_map}
 use Rattle.std.proofs.lemmas.Option.{same_Some}
 use Rattle.vod_types.specs.declared.tracks.Kind.{Kind}
@@ -11,7 +11,7 @@ use Rattle.media_model.proofs.Boxes.{length-box}
 use Rattle.media_model.proofs.FieldsRead.{length-entries}
 use Rattle.vod_gen.specs.declared.spec.TrackSpec.{TrackSpec}
 use Rattle.vod_gen.specs.Tables.{description, duration_run, decode_times, offset_run, offset_table, sync_table, where_given, chunk_runs, sample_sizes, chunk_offsets, sample_table}
-use Rattle.vod_gen.specs.MovieFile.{media_before, movie_header, track_header, media_header, media_information, track_box, track_boxes, file_type, movie_box}
+use Rattle.vod_gen.specs.MovieFile.{media_before, movie_header, track_header, media_header, media_information, track_box, track_boxes, movie_box}
 
 -- ---- each table
 
@@ -88,9 +88,24 @@ tables place t small =
     let five : List ℕ = four ++ chunk_runs t in
     let six : List ℕ = five ++ sample_sizes t in
     omega (
-      arith, length-box (codes "stbl") (six ++ chunk_offsets place t) refl, length-append six (chunk_offsets place t), length-append five (sample_sizes t), length-append four (chunk_runs t),
-      length-append three (where_given (λ numbers. sync_table numbers.items) t.stss), length-append two (where_given (λ runs. offset_table runs.items) t.ctts), length-append one (decode_times t),
-      described t, timed t, chunked t, sized t, placed place t, small.entry, small.durations, small.offsets, small.numbers, small.samples,
+      arith,
+      length-box (codes "stbl") (six ++ chunk_offsets place t) refl,
+      length-append six (chunk_offsets place t),
+      length-append five (sample_sizes t),
+      length-append four (chunk_runs t),
+      length-append three (where_given (λ numbers. sync_table numbers.items) t.stss),
+      length-append two (where_given (λ runs. offset_table runs.items) t.ctts),
+      length-append one (decode_times t),
+      described t,
+      timed t,
+      chunked t,
+      sized t,
+      placed place t,
+      small.entry,
+      small.durations,
+      small.offsets,
+      small.numbers,
+      small.samples,
     )
 
 kind_headed : (kind : Kind) → length (kind_header kind) ≤ 20
@@ -127,8 +142,16 @@ track_room number place t small =
     let front : List ℕ = media_header t.timescale ++ handler t.kind in
     let mdia : List ℕ = box (codes "mdia") (front ++ media_information place t) in
     omega (
-      arith, length-box (codes "trak") (track_header number t.kind ++ mdia) refl, length-append (track_header number t.kind) mdia, length-box (codes "mdia") (front ++ media_information place t) refl,
-      length-append front (media_information place t), length-append (media_header t.timescale) (handler t.kind), track_headed number t.kind, headed t.timescale, handled t.kind, informed place t small,
+      arith,
+      length-box (codes "trak") (track_header number t.kind ++ mdia) refl,
+      length-append (track_header number t.kind) mdia,
+      length-box (codes "mdia") (front ++ media_information place t) refl,
+      length-append front (media_information place t),
+      length-append (media_header t.timescale) (handler t.kind),
+      track_headed number t.kind,
+      headed t.timescale,
+      handled t.kind,
+      informed place t small,
     )
 
 movie_headed : (tracks : ℕ) → length (movie_header tracks) ≤ 108
@@ -143,9 +166,16 @@ movie_room start v a sv sa =
     let second : List ℕ = track_box 2 (start + length (media_before tracks (v ∷ []) a.kind)) a in
     let both : length (track_boxes start tracks [] tracks) ≤ 2000800 =
     omega (
-      arith, length-append first (second ++ []), length-append second [], track_room 1 (start + length (media_before tracks [] v.kind)) v sv,
+      arith,
+      length-append first (second ++ []),
+      length-append second [],
+      track_room 1 (start + length (media_before tracks [] v.kind)) v sv,
       track_room 2 (start + length (media_before tracks (v ∷ []) a.kind)) a sa,
     ) in
     omega (
-      arith, both, movie_headed 2, length-box (codes "moov") (movie_header 2 ++ track_boxes start tracks [] tracks) refl, length-append (movie_header 2) (track_boxes start tracks [] tracks),
+      arith,
+      both,
+      movie_headed 2,
+      length-box (codes "moov") (movie_header 2 ++ track_boxes start tracks [] tracks) refl,
+      length-append (movie_header 2) (track_boxes start tracks [] tracks),
     )
