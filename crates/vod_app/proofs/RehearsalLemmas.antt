@@ -8,9 +8,8 @@ use Rattle.vod_types.specs.declared.refusal.Refusal.{Refusal}
 use Rattle.vod_types.specs.declared.refusal.Refusal.TheVariants.{NoMemory, StoreFailed}
 use Rattle.vod_types.specs.declared.segments.Listed.{Listed}
 use Rattle.segment_model.specs.Listing.{ListedSegment, listed_view}
-use Rattle.list_model.specs.Command.{Outcome, done, usage, refused, store_failed, sink_failed, no_memory, door_failed, outcome_status, rehearsal_line}
+use Rattle.list_model.specs.Command.{Outcome, refused, no_memory, outcome_status, rehearsal_line}
 use Rattle.origin_model.specs.Answers.{answer, path_rows}
-use Rattle.origin_model.specs.Outcomes.{GainsDue}
 use Rattle.rehearsal_laws.specs.Films.{playlist_path, rehearsal_setup, IsFilm}
 use Rattle.rehearsal_laws.proofs.Listed.{every_number_is_listed}
 use Rattle.vod_app.specs.Rehearsals.{answered_media, line_of, listed_samples, rehearsal_due, IsUnrefused, TellsLine}
@@ -108,16 +107,6 @@ pub unrefused : {T : Type 0} (view : T → List ℕ) (n : ℕ) (why : Refusal) (
     → (outcome ≡ no_memory) ⊎ ((outcome ≡ refused why) × (why ≢ NoMemory) × (why ≢ StoreFailed)) → IsUnrefused outcome
 unrefused view n why outcome told (inl memory) = inr (inr memory)
 unrefused view n why outcome told (inr (is, memory, store)) = let film = told memory store in absurd (never_refused n film.0 why film.1 film.2)
-
--- what a line that was made ends with
-pub written : (text : List ℕ) (outcome : Outcome) (before now : Option (List ℕ)) → GainsDue (text, None) outcome before now → outcome ≢ store_failed → IsUnrefused outcome
-written text done before now wrote store = inl refl
-written text usage before now wrote store = absurd wrote
-written text (refused r) before now wrote store = absurd (let none = wrote.0 in cc)
-written text store_failed before now wrote store = absurd (store refl)
-written text sink_failed before now wrote store = inr (inl refl)
-written text no_memory before now wrote store = inr (inr refl)
-written text door_failed before now wrote store = absurd wrote
 
 pub unrefused_status : (outcome : Outcome) (status : ℕ) → status ≡ outcome_status outcome → IsUnrefused outcome → (status ≡ 0) ⊎ ((status ≡ 4) ⊎ (status ≡ 5))
 unrefused_status outcome status is (inl whole) = inl (is ∙ ap outcome_status whole)
