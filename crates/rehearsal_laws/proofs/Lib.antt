@@ -6,4 +6,4 @@ mod Movies
 mod Checked
 mod Parts
 mod Planned
-mod Listed
+pub mod Listed
