@@ -9,7 +9,7 @@ use Rattle.vod_types.specs.Results.{◌>>=◌}
 use Rattle.clip_model.specs.Timeline.{Timeline}
 use Rattle.vod_source.specs.Stored.{Read}
 use Rattle.origin_model.specs.Plans.{pieces_or_none}
-use Rattle.origin_model.specs.Reads.{further_names, ranged_reads, sample_reads, turn_names, turn_pieces}
+use Rattle.origin_model.specs.Reads.{ranged_reads, sample_reads, turn_names, turn_pieces}
 use Rattle.origin_model.specs.Requests.{Setup, Asking, init_piece, timeline_asked}
 use Rattle.seek_lists.specs.Inits.{init_names}
 use Rattle.vod_origin.specs.Wanted.{timeline_in}
@@ -29,10 +29,6 @@ module _ (o : Setup) (part sequence : ℕ) (asked : Asked) where
       by_timeline (Ok t) = refl
       by_timeline (Err e) = refl
 
-  none_further : (a : Asking) → further_names o a (Init part sequence asked) ≡ []
-  unfolding further_names
-  none_further a = refl
-
   none_sampled : (range : Option ByteRange) (a : Asking) → ranged_reads o a range (Init part sequence asked) ≡ samples_by none_in (timeline_in o sequence a)
   unfolding sample_reads
   none_sampled range a = by_timeline (timeline_asked o a sequence)
@@ -42,7 +38,7 @@ module _ (o : Setup) (part sequence : ℕ) (asked : Asked) where
       by_timeline (Err e) = refl
 
   pub init_looks : LooksSo (init_names_in part) none_in o (timeline_in o sequence) (Init part sequence asked)
-  init_looks = record { sought = refl; turns = turned; further = none_further; samples = none_sampled }
+  init_looks = record { sought = refl; turns = turned; samples = none_sampled }
 
 -- of a leaf that is one
 pub init_looked : (o : Setup) (leaf : Leaf) (part sequence : ℕ) (asked : Asked) → leaf ≡ Init part sequence asked → LooksSo (init_names_in part) none_in o (timeline_in o sequence) leaf

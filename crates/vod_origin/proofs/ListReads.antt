@@ -10,7 +10,7 @@ use Rattle.vod_types.specs.Tracks.{video_alone}
 use Rattle.clip_model.specs.Timeline.{Timeline}
 use Rattle.vod_source.specs.Stored.{Read}
 use Rattle.origin_model.specs.Plans.{Cutting, pieces_or_none, rows_looks}
-use Rattle.origin_model.specs.Reads.{further_names, ranged_reads, sample_reads, turn_names, turn_pieces}
+use Rattle.origin_model.specs.Reads.{ranged_reads, sample_reads, turn_names, turn_pieces}
 use Rattle.origin_model.specs.Requests.{Setup, Asking, cutting, timeline_asked}
 use Rattle.vod_plan.specs.Looks.{names_of}
 use Rattle.vod_origin.proofs.MadeReads.{none_in}
@@ -34,31 +34,23 @@ index_turns : (o : Setup) (asked : Asked) (sequence : ℕ) (a : Asking) → turn
 unfolding turn_pieces
 index_turns o asked sequence a = by_timeline o asked a (timeline_asked o a sequence)
 
-index_further : (o : Setup) (asked : Asked) (sequence : ℕ) (a : Asking) → further_names o a (Index sequence asked) ≡ []
-unfolding further_names
-index_further o asked sequence a = refl
-
 index_samples : (o : Setup) (asked : Asked) (sequence : ℕ) (range : Option ByteRange) (a : Asking) → ranged_reads o a range (Index sequence asked) ≡ samples_by none_in (timeline_asked o a sequence >>= cut_with o a)
 unfolding sample_reads
 index_samples o asked sequence range a = none_by o asked a (timeline_asked o a sequence)
 
 pub index_looks : (o : Setup) (sequence : ℕ) (asked : Asked) → LooksSo (names_in asked) none_in o (cut_in o sequence) (Index sequence asked)
-index_looks o sequence asked = record { sought = refl; turns = index_turns o asked sequence; further = index_further o asked sequence; samples = index_samples o asked sequence }
+index_looks o sequence asked = record { sought = refl; turns = index_turns o asked sequence; samples = index_samples o asked sequence }
 
 marks_turns : (o : Setup) (video sequence : ℕ) (a : Asking) → turn_names o a (Iframes sequence video) ≡ names_by (names_in (video_alone video)) (timeline_asked o a sequence >>= cut_with o a)
 unfolding turn_pieces
 marks_turns o video sequence a = by_timeline o (video_alone video) a (timeline_asked o a sequence)
-
-marks_further : (o : Setup) (video sequence : ℕ) (a : Asking) → further_names o a (Iframes sequence video) ≡ []
-unfolding further_names
-marks_further o video sequence a = refl
 
 marks_samples : (o : Setup) (video sequence : ℕ) (range : Option ByteRange) (a : Asking) → ranged_reads o a range (Iframes sequence video) ≡ samples_by none_in (timeline_asked o a sequence >>= cut_with o a)
 unfolding sample_reads
 marks_samples o video sequence range a = none_by o (video_alone video) a (timeline_asked o a sequence)
 
 pub marks_looks : (o : Setup) (sequence video : ℕ) → LooksSo (names_in (video_alone video)) none_in o (cut_in o sequence) (Iframes sequence video)
-marks_looks o sequence video = record { sought = refl; turns = marks_turns o video sequence; further = marks_further o video sequence; samples = marks_samples o video sequence }
+marks_looks o sequence video = record { sought = refl; turns = marks_turns o video sequence; samples = marks_samples o video sequence }
 
 -- of a leaf that is one
 pub index_looked : (o : Setup) (leaf : Leaf) (sequence : ℕ) (asked : Asked) → leaf ≡ Index sequence asked → LooksSo (names_in asked) none_in o (cut_in o sequence) leaf

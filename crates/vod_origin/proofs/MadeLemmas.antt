@@ -1,27 +1,22 @@
 -- Bodies that are made: they are the answer, and a step writes all of it.
-use Rattle.std.proofs.Common.{◌≡◌, ◌≢◌, ℕ, ◌%◌, Bool, true, false, List, length, Option, Some, None, IfSome, IsTrue, Ok, Err, refl, sym, ap, ◌∙◌, subst, lit<}
+use Rattle.std.proofs.Common.{◌≡◌, ◌≢◌, ℕ, ◌%◌, Bool, true, false, List, length, Option, Some, None, IfSome, IsTrue, refl, sym, ap, ◌∙◌, subst, lit<}
 use Rattle.std.specs.Prelude.{is_none}
 use Rattle.vod_types.specs.declared.paths.Ask.{Ask}
 use Rattle.vod_types.specs.declared.paths.Leaf.{Leaf}
 use Rattle.vod_types.specs.declared.paths.Leaf.TheVariants as leaves
-use Rattle.vod_types.specs.declared.refusal.Refusal.{Refusal}
-use Rattle.vod_types.specs.declared.refusal.Refusal.TheVariants.{StoreFailed}
 use Rattle.vod_types.specs.declared.segments.Form.TheVariants.{Ts, Fmp4}
 use Rattle.vod_types.specs.Settled.{Settled}
 use Rattle.list_model.specs.Reply.{told_length}
-use Rattle.vod_source.specs.Causes.{Rose}
 use Rattle.vod_source.specs.declared.step.Step.{Step}
 use Rattle.vod_source.specs.declared.step.Step.TheVariants.{Again, Whole, BadNal, SinkFailed}
-use Rattle.vod_source.specs.Stored.{Files, Read}
+use Rattle.vod_source.specs.Stored.{Files}
 use Rattle.vod_source.specs.Told.{told_with, GrewByPrefix}
-use Rattle.vod_source.proofs.CallLemmas.{told_all, told_with_all}
+use Rattle.vod_source.proofs.CallLemmas.{told_all}
 use Rattle.vod_http.specs.Answered.{Advances, HasLength, KeepsPackets}
 use Rattle.vod_http.specs.declared.answerer.Reply.{Reply}
 use Rattle.vod_http.specs.declared.answerer.Reply.TheVariants.{Body, Refused}
-use Rattle.answer_laws.specs.Refusals.{IsPathRefusal}
-use Rattle.flat_lists.specs.Asked.{setup_of}
 use Rattle.flat_segments.specs.declared.body.FlatBody.{FlatBody}
-use Rattle.mp4_flat.specs.Flat.{is_stream, IsAskAnswer}
+use Rattle.mp4_flat.specs.Flat.{is_stream}
 use Rattle.vod_origin.specs.AnswerLaw.{has_length}
 use Rattle.vod_origin.specs.Begun.{asked_answer, Begins, IsBegun, Replies}
 use Rattle.vod_origin.specs.Bodies.{end_of, made_rest, rest_in}
@@ -29,8 +24,7 @@ use Rattle.vod_origin.specs.declared.cursor.Cursor.{Cursor}
 use Rattle.vod_origin.specs.declared.cursor.Cursor.TheVariants.{Made, Fragment, Stream}
 use Rattle.vod_origin.specs.declared.cursor.MadeBody.{MadeBody}
 use Rattle.vod_origin.specs.Steps.{Steps}
-use Rattle.vod_origin.proofs.Answers.{answer-body, answer-err}
-use Rattle.vod_origin.proofs.ReplyLemmas.{IsAnswered, refused, replied, rests}
+use Rattle.vod_origin.proofs.ReplyLemmas.{IsAnswered, replied, rests}
 
 -- ---- the reply
 
@@ -65,23 +59,6 @@ module _ (settings : Settled) (root : List ℕ) (ask : Ask) (content : Option Fi
     }
     answered_begins (Body kind n part (Fragment b)) begun = absurd begun.3
     answered_begins (Body kind n part (Stream b)) begun = absurd begun.3
-
-  module _ (log log_now : Option (List Read)) where
-    pub made_refused : (before now : ℕ) (e : Refusal) → IsPathRefusal e → (e ≡ StoreFailed → Rose before now)
-        → IfSome content (λ files. IsAskAnswer (setup_of settings root files) ask (Err e) log log_now) → Replies (asked_answer settings root ask content) before now (Refused e)
-    made_refused before now e may rose told =
-        refused settings root ask content before now e may rose
-        (told_with_all content _ _ told (λ files came known_memory known_store. answer-err (setup_of settings root files) ask e (came.answered known_memory known_store)))
-
-    module _ (body : FlatBody) (told : IfSome content (λ files. IsAskAnswer (setup_of settings root files) ask (Ok body) log log_now)) where
-      answered : IfSome content (IsAnswered settings root ask (λ files. body.bytes.items) (λ files. end_of body.cut))
-      answered = told_with_all content _ _ told (λ files came. answer-body (setup_of settings root files) ask body came.answered)
-
-      pub made_replied : (before now : ℕ) (reply : Reply Cursor) → IsBegun ask.leaf body reply → Replies (asked_answer settings root ask content) before now reply
-      made_replied = answered_replied body answered
-
-      pub made_begins : (reply : Reply Cursor) → IsBegun ask.leaf body reply → Begins (asked_answer settings root ask content) content reply
-      made_begins = answered_begins body answered
 
 -- ---- a step
 

@@ -29,7 +29,7 @@ use Rattle.vod_http.specs.declared.answerer.Reply.TheVariants.{Body, Refused}
 use Rattle.origin_model.specs.Answers.{lone_iframe, lone_segment}
 use Rattle.origin_model.specs.Bodies.{rows_read}
 use Rattle.origin_model.specs.Plans.{Cutting, pieces_or_none, segment_looks}
-use Rattle.origin_model.specs.Reads.{Cache, further_names, mapping_reads_by, ranged_reads, sample_reads, turn_names, turn_pieces, turns}
+use Rattle.origin_model.specs.Reads.{Cache, mapping_reads_by, ranged_reads, sample_reads, turn_names, turn_pieces, turns}
 use Rattle.origin_model.specs.Requests.{Setup, Asking, cutting, timeline_asked}
 use Rattle.origin_model.specs.Samples.{SegmentPlan}
 use Rattle.flat_segments.specs.Bodies.{body_reads, sample_ranges}
@@ -83,14 +83,6 @@ module _ (o : Setup) (w : Wanted) (sequence : ℕ) where
       by_wanted (wants.Segment number asked form) = by_timeline (timeline_asked o a sequence) number asked
       by_wanted (wants.Iframe number index video) = by_timeline (timeline_asked o a sequence) number (asked_of (wants.Iframe number index video))
 
-  none_further : (a : Asking) → further_names o a (leaf_of sequence w) ≡ []
-  unfolding further_names
-  none_further a = by_wanted w
-    where
-      by_wanted : (w : Wanted) → further_names o a (leaf_of sequence w) ≡ []
-      by_wanted (wants.Segment number asked form) = refl
-      by_wanted (wants.Iframe number index video) = refl
-
   sampled : (r : Option ByteRange) (a : Asking) → ranged_reads o a r (leaf_of sequence w) ≡ samples_by (samples_in o.files w) (timeline_asked o a sequence >>= cut_with o a)
   unfolding sample_reads lone_segment lone_iframe
   sampled r a = by_wanted w
@@ -108,7 +100,7 @@ module _ (o : Setup) (w : Wanted) (sequence : ℕ) where
   is_sought_wanted (wants.Iframe number index video) = refl
 
   pub wanted_looks : LooksSo (names_in o.files w) (samples_in o.files w) o (cut_in o sequence) (leaf_of sequence w)
-  wanted_looks = record { sought = is_sought_wanted w; turns = turned; further = none_further; samples = sampled }
+  wanted_looks = record { sought = is_sought_wanted w; turns = turned; samples = sampled }
 
 -- ---- samples
 

@@ -1,5 +1,5 @@
 -- What is read for a request whose rows are found by seeks.
-use Rattle.std.proofs.Common.{◌≡◌, ◌≢◌, ℕ, Bool, true, false, List, [], ◌++◌, length, Option, None, Some, Result, Ok, Err, refl, sym, ap, ◌∙◌, subst, append-nil, append_assoc, arith}
+use Rattle.std.proofs.Common.{◌≡◌, ◌≢◌, ℕ, Bool, true, false, List, [], ◌++◌, length, Option, None, Some, Result, Ok, Err, refl, sym, ap, ap₂, ◌∙◌, subst, append-nil, append_assoc, arith}
 use Rattle.std.specs.Prelude.{not, if◌then◌else◌, IfSome}
 use Rattle.std.specs.Result.{result_unwrap_or}
 use Rattle.std.proofs.Math.Seq.{take-length}
@@ -20,7 +20,7 @@ use Rattle.origin_model.specs.Reads.{Cache, Looks, ask_reads, further_names, loo
 use Rattle.origin_model.specs.Requests.{Setup, Asking, asking_of}
 use Rattle.vod_plan.specs.Turned.{AreTurns, LeavesCache, LeftByFirst}
 use Rattle.vod_origin.specs.declared.cursor.Cursor.{Cursor}
-use Rattle.vod_origin.specs.Reads.{LogsReply, ReadsFor, ReadsForAsk, asked_names, asked_reads, is_sought, outcome_of, reads_to_come}
+use Rattle.vod_origin.specs.Reads.{ReadsForAsk, asked_names, asked_reads, is_sought, reads_to_come}
 
 -- ---- values that may be told
 
@@ -71,7 +71,6 @@ module _ {D : Type 0} (names_in : D → List (List ℕ)) (samples_in : D → Lis
   pub record LooksSo (o : Setup) (found : Asking → Result D Refusal) (leaf : Leaf) : Type 0 where
     pub sought : is_sought leaf ≡ true
     pub turns : (a : Asking) → turn_names o a leaf ≡ names_by names_in (found a)
-    pub further : (a : Asking) → further_names o a leaf ≡ []
     pub samples : (range : Option ByteRange) (a : Asking) → ranged_reads o a range leaf ≡ samples_by samples_in (found a)
 
   module _ (o : Setup) (range : Option ByteRange) (ask : Ask) (found : Asking → Result D Refusal) (so : LooksSo o found ask.leaf) where
@@ -81,17 +80,23 @@ module _ {D : Type 0} (names_in : D → List (List ℕ)) (samples_in : D → Lis
     abbrev mapped : List Read
     mapped = mapping_reads_by o (is_local ask.place) ask.target
 
-    abbrev looks_by : Result D Refusal → Looks
-    looks_by r = record { turns = names_by names_in r; further = []; samples = samples_by samples_in r }
+    abbrev looks_by : Option ByteRange → Result Asking Refusal → Looks
+    looks_by r asking = result_unwrap_or (asking >>= λ a. Ok (record { turns = turn_names o a ask.leaf; further = further_names o a ask.leaf; samples = ranged_reads o a r ask.leaf })) no_looks
 
-    looks_are : (r : Option ByteRange) → looks_of o r ask ≡ looks_by due
+    turns_are : (r : Option ByteRange) → (looks_of o r ask).turns ≡ names_by names_in due
     unfolding looks_of
-    looks_are r = by_asking (asking_of o ask)
+    turns_are r = by_asking (asking_of o ask)
       where
-        by_asking : (asking : Result Asking Refusal)
-            → result_unwrap_or (asking >>= λ a. Ok (record { turns = turn_names o a ask.leaf; further = further_names o a ask.leaf; samples = ranged_reads o a r ask.leaf })) no_looks
-            ≡ looks_by (asking >>= found)
-        by_asking (Ok a) = rw (so.turns a, so.further a, so.samples r a) refl
+        by_asking : (asking : Result Asking Refusal) → (looks_by r asking).turns ≡ names_by names_in (asking >>= found)
+        by_asking (Ok a) = so.turns a
+        by_asking (Err e) = refl
+
+    samples_are : (looks_of o range ask).samples ≡ samples_by samples_in due
+    unfolding looks_of
+    samples_are = by_asking (asking_of o ask)
+      where
+        by_asking : (asking : Result Asking Refusal) → (looks_by range asking).samples ≡ samples_by samples_in (asking >>= found)
+        by_asking (Ok a) = so.samples range a
         by_asking (Err e) = refl
 
     abbrev later_by : Cache → Bool → Result D Refusal → List Read
@@ -102,12 +107,12 @@ module _ {D : Type 0} (names_in : D → List (List ℕ)) (samples_in : D → Lis
     reads_are cache head_only =
         rw so.sought (
         append_assoc mapped (turns o.files cache (names_taken (looks_of o range ask) [])).reads (samples_read head_only (looks_of o range ask).samples)
-        ∙ ap (λ (l : Looks). mapped ++ ((turns o.files cache (names_taken l [])).reads ++ samples_read head_only l.samples)) (looks_are range)
-        ∙ ap (λ (names : List (List ℕ)). mapped ++ ((turns o.files cache names).reads ++ samples_read head_only (samples_by samples_in due))) (append-nil (names_by names_in due)))
+        ∙ ap₂ (λ (names : List (List ℕ)) (samples : List Read). mapped ++ ((turns o.files cache names).reads ++ samples_read head_only samples))
+        (append-nil (looks_of o range ask).turns ∙ turns_are range) samples_are)
 
     names_are : asked_names o ask ≡ names_by names_in due
     unfolding asked_names
-    names_are = rw so.sought (ap (λ (l : Looks). l.turns) (looks_are None))
+    names_are = rw so.sought (turns_are None)
 
     later_none : (cache : Cache) (head_only : Bool) (e : Refusal) → due ≡ Err e → later_by cache head_only due ≡ []
     unfolding turns

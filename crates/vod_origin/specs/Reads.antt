@@ -4,7 +4,7 @@ use Rattle.std.specs.Option.{option_map_or}
 use Rattle.vod_types.specs.declared.paths.Ask.{Ask}
 use Rattle.vod_types.specs.declared.paths.ByteRange.{ByteRange}
 use Rattle.vod_types.specs.declared.paths.Leaf.{Leaf}
-use Rattle.vod_types.specs.declared.paths.Leaf.TheVariants.{Index, Init, Segment, Iframes, Iframe}
+use Rattle.vod_types.specs.declared.paths.Leaf.TheVariants.{Clip}
 use Rattle.vod_types.specs.declared.refusal.Refusal.{Refusal}
 use Rattle.vod_source.specs.Calls.{LogsReads}
 use Rattle.vod_source.specs.declared.step.Step.{Step}
@@ -30,21 +30,17 @@ cache_of metas = option_map_or names_held metas []
 
 -- ---- a request
 
--- the forms of which what they say is found by seeks over the movies that are kept
+-- the forms of which what they say is found by seeks over the movies that are kept: all but clips
 abbrev pub is_sought : Leaf → Bool
-is_sought (Index sequence asked) = true
-is_sought (Init part sequence asked) = true
-is_sought (Segment number sequence asked form) = true
-is_sought (Iframes sequence video) = true
-is_sought (Iframe number index sequence video) = true
-is_sought _ = false
+is_sought (Clip sequence asked) = false
+is_sought _ = true
 
--- Such a form reads what the movies that are kept leave to be read, and for a head alone no sample. Any other form reads as if no
--- movie were kept, and a clip its samples for a head too.
+-- Such a form reads what the movies that are kept leave to be read, and for a head alone no sample. A clip reads as if no movie
+-- were kept, and its samples for a head too.
 unfoldable pub asked_reads : Setup → Cache → Bool → Option ByteRange → Ask → List Read
 asked_reads o cache head_only range ask = if is_sought ask.leaf then ask_reads o cache (not head_only) [] range ask else ask_reads o [] true [] range ask
 
--- the names of the files that have a turn in the cache: any other form leaves the movies that are kept as they are
+-- the names of the files that have a turn in the cache: a clip leaves the movies that are kept as they are
 unfoldable pub asked_names : Setup → Ask → List (List ℕ)
 asked_names o ask = if is_sought ask.leaf then (looks_of o None ask).turns else []
 

@@ -1,51 +1,20 @@
 //! Bodies that are made whole.
 
-ghost use Rattle.std.specs.Prelude.{◌≡◌, ◌≢◌, ◌≤◌, Bool, false, true, IfSome, IsTrue, None, Option};
-ghost use Rattle.vod_types.specs.declared.paths.ByteRange.{ByteRange};
+ghost use Rattle.std.specs.Prelude.{◌≡◌, ◌≢◌, ◌≤◌, false, true, IsTrue, None, Option};
 ghost use Rattle.vod_source.specs.Causes.{Rose};
 ghost use Rattle.vod_source.specs.Stored.{Files};
-ghost use Rattle.origin_model.specs.Reads.{Cache};
-ghost use Rattle.flat_lists.specs.Asked.{setup_of};
 ghost use Rattle.list_model.specs.Reply.{leaf_media, told_length};
-ghost use Rattle.mp4_flat.specs.Asks.{IsPathAsk};
 ghost use Rattle.mp4_flat.specs.Flat.{is_stream};
 ghost use Rattle.flat_segments.specs.Bodies.{IsInPackets};
-ghost use Rattle.vod_origin.specs.Begun.{asked_answer, Begins, IsBegun, Replies};
-ghost use Rattle.vod_origin.specs.Ranges.{clip_of};
-ghost use Rattle.vod_origin.specs.Reads.{is_sought, ReadsForAsk};
+ghost use Rattle.vod_origin.specs.Begun.{IsBegun};
 ghost use Rattle.vod_origin.specs.Steps.{Steps};
 
 use crate::cursor::{Cursor, MadeBody};
 use crate::media::media_of;
-use mp4_flat::{FlatBody, answer_ask};
-use std::alloc::Global;
+use mp4_flat::FlatBody;
 use vod_http::Reply;
-use vod_source::{Sink, Step, Store};
-use vod_types::{Ask, Form, Leaf, Settings};
-
-/// The reply to a request by the plain way, which makes the whole body.
-pub(crate) fn plain_reply<S: Store>(
-    alloc: Global,
-    store: &mut S,
-    settings: &Settings,
-    root: &str,
-    ask: Ask,
-) -> Reply<Cursor>
-    requires ask { IsPathAsk ask }
-    requires unsought { is_sought ask.leaf ≡ false }
-    ensures replies { Replies (asked_answer settings.now root.now ask (S.content store.old)) (S.faults store.old) (S.faults store.new) result }
-    ensures begins { Begins (asked_answer settings.now root.now ask (S.content store.old)) (S.content store.old) result }
-    ensures reads { (head_only : Bool) (range : Option ByteRange) (cache : Cache) → clip_of ask.leaf ≡ None → IfSome (S.content store.old) (λ files.
-        ReadsForAsk (setup_of settings.now root.now files) head_only range ask result cache cache (S.log store.old) (S.log store.new)) }
-    ensures content { S.content store.new ≡ S.content store.old }
-    ensures later { S.faults store.old ≤ S.faults store.new }
-{
-    let leaf = ask.leaf;
-    match answer_ask(alloc, store, settings, root, ask) {
-        Ok(body) => begun(leaf, body),
-        Err(refusal) => Reply::Refused(refusal),
-    }
-}
+use vod_source::{Sink, Step};
+use vod_types::{Form, Leaf};
 
 /// The reply with the body of a leaf.
 pub(crate) fn begun(leaf: Leaf, body: FlatBody) -> Reply<Cursor>

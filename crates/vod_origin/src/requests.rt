@@ -10,12 +10,12 @@ ghost use Rattle.vod_origin.specs.Reads.{cache_of, ReadsForAsk};
 ghost use Rattle.vod_origin.specs.Wanted.{asked_of, form_of, is_wanted, leaf_of, number_of};
 ghost use Rattle.mp4_flat.specs.Asks.{IsPathAsk};
 
-use crate::bodies::plain_reply;
 use crate::cursor::Cursor;
 use crate::fragments::fragment_reply;
 use crate::inits::init_reply;
 use crate::lists::{iframes_reply, playlist_reply};
 use crate::plans::{plan, sequence_cut};
+use crate::presentations::{Presentation, presentation_reply};
 use crate::streams::stream_reply;
 use crate::wanted::{Wanted, wanted_of};
 use std::alloc::Global;
@@ -25,8 +25,7 @@ use vod_plan::Plan;
 use vod_source::Store;
 use vod_types::{Ask, Form, Leaf, Settings};
 
-/// The reply to a request: segments, single I-frames, initialization segments, media playlists and I-frame playlists over the
-/// metadata that are kept, and all else by the plain way.
+/// The reply to a request for anything but a clip, over the metadata that are kept.
 pub(crate) fn ask_reply<S: Store>(
     alloc: Global,
     metas: &mut Option<Metas>,
@@ -37,10 +36,11 @@ pub(crate) fn ask_reply<S: Store>(
     head_only: bool,
 ) -> Reply<Cursor>
     requires ask { IsPathAsk ask }
+    requires unclipped { clip_of ask.leaf ≡ None }
     requires held { AreHeld (S.content store.old) metas.old }
     ensures replies { Replies (asked_answer settings.now root.now ask (S.content store.old)) (S.faults store.old) (S.faults store.new) result }
     ensures begins { head_only ≡ false → Begins (asked_answer settings.now root.now ask (S.content store.old)) (S.content store.old) result }
-    ensures reads { (range : Option ByteRange) → clip_of ask.leaf ≡ None → IfSome (S.content store.old) (λ files.
+    ensures reads { (range : Option ByteRange) → IfSome (S.content store.old) (λ files.
         ReadsForAsk (setup_of settings.now root.now files) head_only range ask result (cache_of metas.old) (cache_of metas.new) (S.log store.old) (S.log store.new)) }
     ensures held { AreHeld (S.content store.new) metas.new }
     ensures content { S.content store.new ≡ S.content store.old }
@@ -64,17 +64,36 @@ fn made_reply<S: Store>(
     ask: Ask,
 ) -> Reply<Cursor>
     requires ask { IsPathAsk ask }
+    requires unclipped { clip_of ask.leaf ≡ None }
     requires unwanted { is_wanted ask.leaf ≡ false }
     requires held { AreHeld (S.content store.old) metas.old }
     ensures replies { Replies (asked_answer settings.now root.now ask (S.content store.old)) (S.faults store.old) (S.faults store.new) result }
     ensures begins { Begins (asked_answer settings.now root.now ask (S.content store.old)) (S.content store.old) result }
-    ensures reads { (head_only : Bool) (range : Option ByteRange) → clip_of ask.leaf ≡ None → IfSome (S.content store.old) (λ files.
+    ensures reads { (head_only : Bool) (range : Option ByteRange) → IfSome (S.content store.old) (λ files.
         ReadsForAsk (setup_of settings.now root.now files) head_only range ask result (cache_of metas.old) (cache_of metas.new) (S.log store.old) (S.log store.new)) }
     ensures held { AreHeld (S.content store.new) metas.new }
     ensures content { S.content store.new ≡ S.content store.old }
     ensures later { S.faults store.old ≤ S.faults store.new }
 {
     match ask.leaf {
+        Leaf::Master => presentation_reply(
+            alloc,
+            metas,
+            store,
+            settings,
+            root,
+            ask,
+            Presentation::Master,
+        ),
+        Leaf::Mpd => presentation_reply(
+            alloc,
+            metas,
+            store,
+            settings,
+            root,
+            ask,
+            Presentation::Description,
+        ),
         Leaf::Index { sequence, asked } => {
             playlist_reply(alloc, metas, store, settings, root, ask, sequence, asked)
         }
@@ -88,7 +107,7 @@ fn made_reply<S: Store>(
         } => init_reply(
             alloc, metas, store, settings, root, ask, part, sequence, asked,
         ),
-        _ => plain_reply(alloc, store, settings, root, ask),
+        Leaf::Segment { .. } | Leaf::Iframe { .. } | Leaf::Clip { .. } => unreachable!(),
     }
 }
 

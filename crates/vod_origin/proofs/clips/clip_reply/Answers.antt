@@ -2,9 +2,8 @@
 use Rattle.std.proofs.Common.{Err, ap}
 use Rattle.vod_source.proofs.CallLemmas.{told_with_all}
 use Rattle.vod_origin.proofs.ClipReplies.{bounds_of, made_part, made_whole, part_begins, part_refused, part_replied}
-use Rattle.std.proofs.Common.{refl}
 use Rattle.flat_lists.specs.Asked.{setup_of}
-use Rattle.vod_origin.proofs.PlainReads.{plain_part, plain_refused, unsought_clip}
+use Rattle.vod_origin.proofs.ClipReads.{clip_made, clip_refused}
 use Rattle.vod_origin.proofs.clips.clip_reply.Goals as goal
 
 pub returns-in-Err-clause-replies : goal.returns-in-Err-clause-replies
@@ -46,14 +45,14 @@ returns-in-Some-clause-begins g c =
 pub returns-in-Err-clause-reads : goal.returns-in-Err-clause-reads
 returns-in-Err-clause-reads g c = λ head_only cache.
     told_with_all (g.S.Store.content c.args.store.now) _ _ c.in-Err.ensures.told
-    (λ files came. plain_refused (setup_of c.args.settings.now c.args.root.now files) c.args.range c.args.ask (unsought_clip c.args.ask.leaf _ _ c.requires.leaf) head_only cache _ refl _ _ c.in-Err.refusal came.logged)
+    (λ files came. clip_refused (setup_of c.args.settings.now c.args.root.now files) c.args.range c.args.ask c.args.sequence c.args.asked c.requires.leaf head_only cache _ _ c.in-Err.refusal came.logged)
 
 pub returns-in-None-clause-reads : goal.returns-in-None-clause-reads
 returns-in-None-clause-reads g c = λ head_only cache.
     told_with_all (g.S.Store.content c.args.store.now) _ _ c.in-Ok.ensures.told
-    (λ files came. plain_part (setup_of c.args.settings.now c.args.root.now files) c.args.range c.args.ask (unsought_clip c.args.ask.leaf _ _ c.requires.leaf) head_only cache _ refl _ _ came.logged _ _ _ _ c.whole_reply.result c.whole_reply.ensures)
+    (λ files came. clip_made (setup_of c.args.settings.now c.args.root.now files) c.args.range c.args.ask c.args.sequence c.args.asked c.requires.leaf head_only cache _ _ came.logged _ _ _ _ c.whole_reply.result c.whole_reply.ensures)
 
 pub returns-in-Some-clause-reads : goal.returns-in-Some-clause-reads
 returns-in-Some-clause-reads g c = λ head_only cache.
     told_with_all (g.S.Store.content c.args.store.now) _ _ c.in-Ok.ensures.told
-    (λ files came. plain_part (setup_of c.args.settings.now c.args.root.now files) c.args.range c.args.ask (unsought_clip c.args.ask.leaf _ _ c.requires.leaf) head_only cache _ refl _ _ came.logged _ _ _ _ c.part_reply.result c.part_reply.ensures)
+    (λ files came. clip_made (setup_of c.args.settings.now c.args.root.now files) c.args.range c.args.ask c.args.sequence c.args.asked c.requires.leaf head_only cache _ _ came.logged _ _ _ _ c.part_reply.result c.part_reply.ensures)

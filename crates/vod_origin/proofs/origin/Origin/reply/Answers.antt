@@ -50,9 +50,8 @@ returns-in-None-clause-reads g c =
     let store : c.self.inside.store ≡ c.args.self.now.store = cc in
     let settings : c.self.inside.settings ≡ c.args.self.now.settings = cc in
     let root : c.as_str-root.result.now ≡ c.args.self.now.root = cc in
-    let none : clip_of c.in-Ok.ask.leaf ≡ None = sym c.clip_of.ensures ∙ c.in-None.is in
     let held : cache_of c.self.inside.metas ≡ c.args.self.now.cache = cc in
-    told_with_all k.content _ _ (rw (root, settings, store, held) at (c.ask_reply.ensures.reads c.args.range none))
+    told_with_all k.content _ _ (rw (root, settings, store, held) at (c.ask_reply.ensures.reads c.args.range))
     (λ files read. of_path (setup_of k.settings k.root files) c.args.head_only c.args.path.now c.args.range c.in-Ok.ask c.in-Ok.ensures.answers _ _ _ _ _ read)
 
 pub returns-in-Some-clause-replies : goal.returns-in-Some-clause-replies
