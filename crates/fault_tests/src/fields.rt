@@ -27,7 +27,12 @@ const DAMAGES: [Damage; 16] = [
     (b"mp4a", 4, b"twos", "/r/f.mp4 twos"),
     (b"stco", 16, b"\x7f\xff\xff\xff", "/r/f.mp4 sample 0"),
     (b"stsz", 20, b"\0\0\0\x0b", "/r/f.mp4 sample 1"),
-    (b"stsz", 20, b"\x01\0\0\x01", "/r/f.mp4 sample 0 of 16777217"),
+    (
+        b"stsz",
+        20,
+        b"\x01\0\0\x01",
+        "/r/f.mp4 sample 0 of 16777217",
+    ),
 ];
 
 // What is asked for of that film.
@@ -44,7 +49,10 @@ const PATHS: [(&str, &str); 6] = [
 const MAPPINGS: [(&[u8], &str); 4] = [
     (b"[]", "rule 1"),
     (b"{\"sequences\":[]}", "rule 2"),
-    (b"{\"sequences\":[{\"clips\":[{\"path\":\"f.mp4\"}],\"language\":\"german\"}]}", "rule 7"),
+    (
+        b"{\"sequences\":[{\"clips\":[{\"path\":\"f.mp4\"}],\"language\":\"german\"}]}",
+        "rule 7",
+    ),
     (b"{\"sequences\":[],\"notifications\":[]}", "notifications"),
 ];
 
@@ -110,7 +118,11 @@ fn refusals_tell_what_is_wrong(rt: HostRuntime) -> Result<(), Fail> {
         assert_eq!(rt; text.as_str(), damage.3, "at {:?} {}", damage.0, damage.1);
     }
     for (path, due) in PATHS {
-        assert_eq!(rt; told(alloc, "/r/f.mp4", film.clone()?, path)?.as_str(), due, "{path}");
+        assert_eq!(rt;
+            told(alloc, "/r/f.mp4", film.clone()?, path)?.as_str(),
+            due,
+            "{path}"
+        );
     }
     let path = "/mapped/dash/m.json/fragment-1-a1.m4s";
     for (mapping, due) in MAPPINGS {

@@ -1,16 +1,18 @@
 -- What a rehearsal counts of an answer, and its line.
-use Rattle.std.proofs.Common.{◌≡◌, ℕ, ◌+◌, ◌<◌, List, [], ◌∷◌, ◌++◌, append_assoc, length, get_or, map, take, Option, Some, None, IfSome, Result, Ok, Err, refl, sym, ap, ◌∙◌, subst}
+use Rattle.std.proofs.Common.{◌≡◌, ◌≢◌, ◌⊎◌, inl, inr, ℕ, ◌+◌, ◌<◌, List, [], ◌∷◌, ◌++◌, append_assoc, length, get_or, map, take, Option, Some, None, IfSome, Result, Ok, Err, refl, sym, ap, ◌∙◌, subst}
 use Rattle.std.specs.Prelude.{sum_by}
 use Rattle.std.proofs.lemmas.List.{length-map}
 use Rattle.std.proofs.lemmas.List.Sums.{sum_by-cons, sum_by_more}
 use Rattle.std.specs.Prelude.{IfOk, IfErr}
 use Rattle.vod_types.specs.declared.refusal.Refusal.{Refusal}
-use Rattle.vod_types.specs.declared.refusal.Refusal.TheVariants.{NoMemory}
+use Rattle.vod_types.specs.declared.refusal.Refusal.TheVariants.{NoMemory, StoreFailed}
 use Rattle.vod_types.specs.declared.segments.Listed.{Listed}
 use Rattle.segment_model.specs.Listing.{ListedSegment, listed_view}
-use Rattle.list_model.specs.Command.{rehearsal_line}
+use Rattle.list_model.specs.Command.{Outcome, refused, no_memory, outcome_status, rehearsal_line}
 use Rattle.origin_model.specs.Answers.{answer, path_rows}
-use Rattle.vod_app.specs.Rehearsals.{answered_media, line_of, listed_samples, playlist_path, rehearsal_due, rehearsal_setup, IsFilm, TellsLine}
+use Rattle.rehearsal_laws.specs.Films.{playlist_path, rehearsal_setup, IsFilm}
+use Rattle.rehearsal_laws.proofs.Listed.{every_number_is_listed}
+use Rattle.vod_app.specs.Rehearsals.{answered_media, line_of, listed_samples, rehearsal_due, IsUnrefused, TellsLine}
 use Rattle.vod_source.specs.Stored.{Files}
 use Rattle.vod_http.specs.Answered.{Rest, Advances}
 use Rattle.vod_source.specs.declared.step.Step.TheVariants.{Again}
@@ -90,3 +92,23 @@ module _ (n : ℕ) (files : Files) where
       made_of view film rows seen made are same
       (subst (λ (fs : Files). IfOk made (λ text. view text ≡ rehearsal_line n (length seen) (sum_by listed_samples (map listed_view seen)) (sum_by (answered_media (answer (rehearsal_setup fs))) (map listed_view seen)))) kept line)
       only
+
+-- ---- the end
+
+-- no film is refused
+never_refused : (n : ℕ) (files : Files) (why : Refusal) → IsFilm n files → rehearsal_due n (rehearsal_setup files) ≡ ([], Some why) → ⊥
+unfolding rehearsal_due
+never_refused n files why film e =
+    let rows = every_number_is_listed n files film in
+    let told : None ≡ Some why = sym (ap (λ r. (line_of n (answer (rehearsal_setup files)) r).1) rows.1) ∙ ap (λ due. due.1) e in
+    cc
+
+pub unrefused : {T : Type 0} (view : T → List ℕ) (n : ℕ) (why : Refusal) (outcome : Outcome) → TellsLine view n (Err why)
+    → (outcome ≡ no_memory) ⊎ ((outcome ≡ refused why) × (why ≢ NoMemory) × (why ≢ StoreFailed)) → IsUnrefused outcome
+unrefused view n why outcome told (inl memory) = inr (inr memory)
+unrefused view n why outcome told (inr (is, memory, store)) = let film = told memory store in absurd (never_refused n film.0 why film.1 film.2)
+
+pub unrefused_status : (outcome : Outcome) (status : ℕ) → status ≡ outcome_status outcome → IsUnrefused outcome → (status ≡ 0) ⊎ ((status ≡ 4) ⊎ (status ≡ 5))
+unrefused_status outcome status is (inl whole) = inl (is ∙ ap outcome_status whole)
+unrefused_status outcome status is (inr (inl failed)) = inr (inl (is ∙ ap outcome_status failed))
+unrefused_status outcome status is (inr (inr memory)) = inr (inr (is ∙ ap outcome_status memory))

@@ -1,43 +1,20 @@
 -- What `rehearse` writes; this project's own.
-use Rattle.std.specs.Prelude.{◌≡◌, ◌≢◌, ℕ, ◌+◌, ◌-◌, ◌*◌, ◌⊎◌, ◌==◌, List, [], ◌∷◌, ◌++◌, length, map, sum_by, codes, decimal, Option, Some, None, Result, Ok, Err, if◌then◌else◌}
+use Rattle.std.specs.Prelude.{◌≡◌, ◌≢◌, ℕ, ◌+◌, ◌-◌, ◌*◌, ◌⊎◌, ◌==◌, List, [], ◌++◌, length, map, sum_by, codes, decimal, Option, Some, None, Result, Ok, Err, if◌then◌else◌}
 use Rattle.vod_types.specs.declared.refusal.Refusal.{Refusal}
 use Rattle.vod_types.specs.declared.refusal.Refusal.TheVariants.{NoMemory, StoreFailed}
-use Rattle.vod_types.specs.Settled.{Settled}
-use Rattle.vod_types.specs.Settings.{default_settings}
 use Rattle.vod_types.specs.declared.segments.Listed.{Listed}
 use Rattle.segment_model.specs.Listing.{ListedSegment, listed_view}
-use Rattle.list_model.specs.Command.{Outcome, no_memory, outcome_status, rehearsal_line}
+use Rattle.list_model.specs.Command.{Outcome, done, no_memory, outcome_status, rehearsal_line, sink_failed}
 use Rattle.list_model.specs.Reply.{Answer}
-use Rattle.vod_gen.specs.Numbered.{numbered_mapping, numbered_tracks, IsMovieOf}
 use Rattle.vod_session.specs.Steps.{Answers}
 use Rattle.vod_source.specs.Calls.{AnswersUnlessFailed}
 use Rattle.vod_source.specs.Stored.{Files}
 use Rattle.origin_model.specs.Answers.{answer, path_rows}
 use Rattle.origin_model.specs.Outcomes.{Due, GainsDue, GainsLine}
 use Rattle.origin_model.specs.Requests.{Setup}
-
--- ---- the film of a number
-
-abbrev pub rehearsal_files : ℕ → List ℕ → Files
-rehearsal_files n movie = (codes "/r/m.mp4", movie) ∷ (codes "/r/m.json", numbered_mapping n) ∷ []
-
--- a movie of the number, and its mapping
-pub record IsFilm (n : ℕ) (files : Files) : Type 0 where
-  pub movie : List ℕ
-  pub of : IsMovieOf (numbered_tracks n) movie
-  pub are : files ≡ rehearsal_files n movie
-
--- segments of two seconds, and defaults
-abbrev pub rehearsal_settings : Settled
-rehearsal_settings = record default_settings { segment_ms = 2000 }
-
-abbrev pub rehearsal_setup : Files → Setup
-rehearsal_setup files = record { settings = rehearsal_settings; root = codes "/r"; files = files }
+use Rattle.rehearsal_laws.specs.Films.{playlist_path, rehearsal_setup, IsFilm}
 
 -- ---- what is counted
-
-abbrev pub playlist_path : List ℕ
-playlist_path = codes "/mapped/hls/m.json/index-f1-v1-a1.m3u8"
 
 -- the path of the fragment of a number
 abbrev pub segment_path : ℕ → List ℕ
@@ -91,6 +68,10 @@ pub record WritesLine (n : ℕ) (outcome : Outcome) (out out_now : Option (List 
 
 abbrev pub IsRehearsed : ℕ → Outcome → Option (List ℕ) → Option (List ℕ) → Type 0
 IsRehearsed n outcome out out_now = ((outcome ≡ no_memory) × (out_now ≡ out)) ⊎ WritesLine n outcome out out_now
+
+-- The line was made, or memory or the output failed: no film is refused.
+abbrev pub IsUnrefused : Outcome → Type 0
+IsUnrefused outcome = (outcome ≡ done) ⊎ ((outcome ≡ sink_failed) ⊎ (outcome ≡ no_memory))
 
 -- how `rehearse` ends and what it wrote
 pub record RehearsalOutcome (n status : ℕ) (out out_now : Option (List ℕ)) (err err_now : Option (List ℕ)) (err_faults err_faults_now : ℕ) : Type 0 where

@@ -1,7 +1,7 @@
 //! The one public function of the program: a run of the words of its command line.
 #![tactic(auto)]
 
-ghost use Rattle.std.specs.Prelude.{◌≡◌, ◌↔◌, ◌≤◌, ◌<◌, ℕ, List, IfSome, None, Some, false, true, map, string_bytes};
+ghost use Rattle.std.specs.Prelude.{◌≡◌, ◌↔◌, ◌⊎◌, ◌≤◌, ◌<◌, ℕ, List, IfSome, None, Some, false, true, map, string_bytes};
 ghost use Rattle.list_model.specs.Command.{Requested, command_of, door_failed, get as get_of, no_memory, pack as pack_of, plan as plan_of, reads as reads_of, rehearse as rehearse_of, serve as serve_of, sink_failed, store_failed, turns as turns_of, usage};
 ghost use Rattle.vod_source.specs.Causes.{Rose};
 ghost use Rattle.origin_model.specs.Outcomes.{GetOutcome, settings_named, settings_reads};
@@ -10,7 +10,7 @@ ghost use Rattle.vod_app.specs.declared.words.Order.{Order};
 ghost use Rattle.vod_app.specs.Commands.{opens_door, serving};
 ghost use Rattle.vod_app.specs.Runs.{IsGet, IsPack, IsPlan, PackOutcome, PlanOutcome, TellsOutcome, outcome_of};
 ghost use Rattle.vod_app.specs.ReadsRuns.{IsReads, ReadsOutcome};
-ghost use Rattle.vod_app.specs.Rehearsals.{IsRehearsed, RehearsalOutcome};
+ghost use Rattle.vod_app.specs.Rehearsals.{IsRehearsed, IsUnrefused, RehearsalOutcome};
 ghost use Rattle.vod_app.specs.Services.{DoesBy, LogsSettings, ServiceOutcome, answers_with};
 
 mod answers;
@@ -122,6 +122,10 @@ pub fn run<S: Store, D: Door, K: Sink, E: Sink>(
         RehearsalOutcome n result.status (K.written out.old) (K.written out.new) (E.written err.old) (E.written err.new) (E.faults err.old) (E.faults err.new) }
     ensures rehearsed_unread { (n : ℕ) → command_of (map string_bytes words.now) ≡ Some (rehearse_of n) → result.store ≡ store }
 
+    // No number's film is refused: its line is written whole, or `out` or memory fails.
+    ensures rehearsed_status { (n : ℕ) → command_of (map string_bytes words.now) ≡ Some (rehearse_of n) →
+        (result.status ≡ 0) ⊎ ((result.status ≡ 4) ⊎ (result.status ≡ 5)) }
+
     // What `serve` does with the links of the door, and `turns`, wherever the store tells its content.
     ensures serve { IfSome (S.content store) (λ files. (root settings addr : List ℕ) (count : ℕ) → command_of (map string_bytes words.now) ≡ Some (serve_of root settings addr count) →
         ServiceOutcome (IsServedBy D.L.left D.L.written (settings_named files settings) (answers_with files root) count
@@ -183,6 +187,7 @@ fn run_command<S: Store, D: Door, K: Sink>(
         IsReads files q (outcome_of result.end) (K.written out.old) (K.written out.new)) }
     ensures rehearsed { (n : ℕ) → command_of (map string_bytes words.now) ≡ Some (rehearse_of n) →
         IsRehearsed n (outcome_of result.end) (K.written out.old) (K.written out.new) × (result.store ≡ store) }
+    ensures unrefused { (n : ℕ) → command_of (map string_bytes words.now) ≡ Some (rehearse_of n) → IsUnrefused (outcome_of result.end) }
     ensures served { IfSome (S.content store) (λ files. (order : Order) (root settings addr : List ℕ) (count : ℕ) → command_of (map string_bytes words.now) ≡ Some (serving order root settings addr count) →
         DoesBy D.L.left D.L.written (settings_named files settings) (answers_with files root) count
         (record { coming = D.coming door.old; returned = D.returned door.old; out = D.out door.old })

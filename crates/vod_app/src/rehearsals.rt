@@ -9,7 +9,8 @@ ghost use Rattle.vod_session.specs.Calls.{AreAnswers};
 ghost use Rattle.vod_session.specs.Steps.{Answers};
 ghost use Rattle.vod_source.specs.Causes.{Rose};
 ghost use Rattle.origin_model.specs.Answers.{answer};
-ghost use Rattle.vod_app.specs.Rehearsals.{answer_length, answered_media, front_bytes, listed_samples, rehearsal_settings, rehearsal_setup, segment_path as segment_path_of, AreListedRows, IsFilm, IsRehearsed, TellsLine};
+ghost use Rattle.rehearsal_laws.specs.Films.{rehearsal_settings, rehearsal_setup, IsFilm};
+ghost use Rattle.vod_app.specs.Rehearsals.{answer_length, answered_media, front_bytes, listed_samples, segment_path as segment_path_of, AreListedRows, IsRehearsed, IsUnrefused, TellsLine};
 ghost use Rattle.vod_app.specs.Runs.{outcome_of};
 
 use crate::ends::End;
@@ -36,9 +37,10 @@ const MANIFEST: &[u8] = b"/mapped/dash/m.json/manifest.mpd";
 /// Builds the film and the mapping of a number in memory, packs them by the plain way, asks one origin for each listed
 /// segment alone, and writes one line: how many segments are listed, how many samples they have, and how many bytes of media.
 ///
-/// It asks nothing of any other store.
+/// It asks nothing of any other store. No number's film is refused.
 pub fn rehearse<K: Sink>(alloc: Global, n: u32, out: &mut K) -> End
     ensures rehearsed { IsRehearsed n (outcome_of result) (K.written out.old) (K.written out.new) }
+    ensures unrefused { IsUnrefused (outcome_of result) }
     ensures form { outcome_of result ≢ usage }
     ensures door { outcome_of result ≢ door_failed }
     ensures store { outcome_of result ≢ store_failed }

@@ -1,5 +1,6 @@
 pub mod EntryLemmas
 pub mod FaultPlaces
+pub mod RunsLemmas
 pub mod ShownLemmas
 pub mod IndexLemmas
 pub mod LoadLemmas

@@ -57,16 +57,19 @@ module _ (moov : List ℕ) (tracks : Tracks) (made : IsMadeOf moov tracks) (trac
       let found = bind_ok (ok_or (named_track (tracks_in moov) track) faults.Absent) (λ t. good_track t.kind t.mdia) g e in
       record { it = found.0; named = ok_or_ok (named_track (tracks_in moov) track) faults.Absent found.0 found.1; good = found.2 }
 
-  pub view-usable : (v : TrackView) → Viewed (Ok v) → v.timescale < 2 ^ 32 → IsUsable (good_of v)
-  view-usable v viewed small =
-      let found = found-in (good_of v) (viewed (tracks_in moov) tracks-known).0 in
-      let limits = good_track_keeps found.it.kind found.it.mdia (good_of v) found.good in
+  pub good-usable : (g : GoodTrack) → track_view (tracks_in moov) track ≡ Ok g → g.timescale < 2 ^ 32 → IsUsable g
+  good-usable g is small =
+      let found = found-in g is in
+      let limits = good_track_keeps found.it.kind found.it.mdia g found.good in
       record {
-        timescale = timescale-some found.it.kind found.it.mdia (good_of v) found.good;
+        timescale = timescale-some found.it.kind found.it.mdia g found.good;
         small = small;
         none_broken = limits.none_broken;
         short = limits.short;
       }
+
+  pub view-usable : (v : TrackView) → Viewed (Ok v) → v.timescale < 2 ^ 32 → IsUsable (good_of v)
+  view-usable v viewed small = good-usable (good_of v) (viewed (tracks_in moov) tracks-known).0 small
 
   -- ---- its checkpoints
 
@@ -213,3 +216,35 @@ module _ (m : Movie) (track : TrackName) where
       by_track (Some t) is e =
           ap (option_and_then (λ (u : Track). index_of (good_track u.kind u.mdia))) is
           ∙ ap index_of e
+
+  -- and no other has
+  shown-index : shown_index m.tracks track ≡ index_of (track_view m.tracks track)
+  unfolding track_view
+  shown-index = by_track (named_track m.tracks track) refl
+    where
+      by_track : (o : Option Track) → named_track m.tracks track ≡ o → option_and_then (λ (t : Track). index_of (good_track t.kind t.mdia)) o ≡ index_of (ok_or o faults.Absent >>= λ t. good_track t.kind t.mdia)
+      by_track None is = refl
+      by_track (Some t) is = refl
+
+  unindexed-by : (r : Result GoodTrack TrackFault) → index_of r ≡ None → result_ok r ≡ None
+  unindexed-by (Ok t) e = absurd cc
+  unindexed-by (Err fault) e = refl
+
+  pub unindexed : shown_index m.tracks track ≡ None → result_ok (track_view m.tracks track) ≡ None
+  unindexed e = unindexed-by (track_view m.tracks track) (sym shown-index ∙ e)
+
+  -- the track that has these checkpoints
+  pub record IsIndexed (index : TrackIndex) : Type 0 where
+    pub good : GoodTrack
+    pub view : track_view m.tracks track ≡ Ok good
+    pub checkpoints : index ≡ record { times = time_checkpoints good.tables; places = place_checkpoints good.tables }
+
+  indexed-by : (index : TrackIndex) (r : Result GoodTrack TrackFault) → track_view m.tracks track ≡ r → index_of r ≡ Some index → IsIndexed index
+  indexed-by index (Ok t) is e =
+      let at : TrackIndex = record { times = time_checkpoints t.tables; places = place_checkpoints t.tables } in
+      let same : at ≡ index = cc e in
+      record { good = t; view = is; checkpoints = sym same }
+  indexed-by index (Err fault) is e = absurd cc
+
+  pub indexed : (index : TrackIndex) → shown_index m.tracks track ≡ Some index → IsIndexed index
+  indexed index e = indexed-by index (track_view m.tracks track) refl (sym shown-index ∙ e)

@@ -1,6 +1,6 @@
 -- A reply gives a clip, or the part of it that was asked for.
-use Rattle.std.proofs.Common.{◌≡◌, ◌≢◌, ℕ, ◌+◌, ◌-◌, ◌≤◌, ◌<◌, List, length, Option, Some, None, IfSome, Result, Ok, Err, inl, inr, refl, sym, ap, ap₂, ◌∙◌, subst, arith, lit<}
-use Rattle.std.specs.Prelude.{is_none, ok_or}
+use Rattle.std.proofs.Common.{◌≡◌, ◌≢◌, ℕ, ◌+◌, ◌-◌, ◌≤◌, ◌<◌, List, length, Option, Some, None, IfSome, Result, Ok, Err, inl, inr, refl, sym, ap, ◌∙◌, subst, arith, lit<}
+use Rattle.std.specs.Prelude.{is_none}
 use Rattle.vod_types.specs.declared.media.Media.{Media}
 use Rattle.vod_types.specs.declared.paths.Ask.{Ask}
 use Rattle.vod_types.specs.declared.paths.ByteRange.{ByteRange}
@@ -19,7 +19,6 @@ use Rattle.list_model.specs.Reply.{Answer, whole, leaf_media, mp4_media}
 use Rattle.list_model.proofs.RangeLemmas.{taken_range-bounds}
 use Rattle.vod_source.specs.Causes.{Rose}
 use Rattle.vod_source.specs.Stored.{Files}
-use Rattle.vod_source.proofs.CallLemmas.{told_all, told_with_all}
 use Rattle.vod_http.specs.Answered.{IsHead, IsHeadOf, IsRefused, IsReply, MayRefuse, rest_of}
 use Rattle.vod_http.specs.declared.answerer.Reply.{Reply}
 use Rattle.vod_http.specs.declared.answerer.Reply.TheVariants as replies

@@ -1,5 +1,5 @@
 -- The answer of an init segment, by its timeline.
-use Rattle.std.proofs.Common.{◌≡◌, ℕ, Bool, List, None, Result, Ok, Err, refl, sym, ap, ◌∙◌}
+use Rattle.std.proofs.Common.{◌≡◌, ℕ, List, None, Result, Ok, Err, refl, ap, ◌∙◌}
 use Rattle.vod_types.specs.declared.paths.Ask.{Ask}
 use Rattle.vod_types.specs.declared.paths.Leaf.TheVariants.{Init}
 use Rattle.vod_types.specs.declared.refusal.Refusal.{Refusal}

@@ -1,11 +1,10 @@
 -- The answers of lists, by their rows.
-use Rattle.std.proofs.Common.{◌≡◌, ℕ, List, [], ◌∷◌, map, Option, None, Result, Ok, Err, refl, ap, ◌∙◌}
+use Rattle.std.proofs.Common.{◌≡◌, ℕ, List, [], ◌∷◌, map, None, Result, Ok, Err, refl, ap, ◌∙◌}
 use Rattle.vod_types.specs.declared.paths.Ask.{Ask}
 use Rattle.vod_types.specs.declared.paths.Leaf.TheVariants.{Iframes, Index}
 use Rattle.vod_types.specs.declared.refusal.Refusal.{Refusal}
 use Rattle.vod_types.specs.declared.segments.IframeRow.{IframeRow}
 use Rattle.vod_types.specs.declared.segments.Listed.{Listed}
-use Rattle.vod_types.specs.declared.segments.SegmentRow.{SegmentRow}
 use Rattle.vod_types.specs.declared.tracks.Asked.{Asked}
 use Rattle.vod_types.specs.Results.{◌>>=◌}
 use Rattle.clip_model.specs.Timeline.{Timeline}

@@ -1,6 +1,5 @@
 -- What is read for a body that is made whole of what its turns found: the turns alone.
 use Rattle.std.proofs.Common.{◌≡◌, ◌≢◌, ℕ, Bool, true, false, List, [], Option, Result, Ok, Err, refl}
-use Rattle.vod_types.specs.declared.media.Media.{Media}
 use Rattle.vod_types.specs.declared.paths.Ask.{Ask}
 use Rattle.vod_types.specs.declared.paths.ByteRange.{ByteRange}
 use Rattle.vod_types.specs.declared.paths.Leaf.{Leaf}

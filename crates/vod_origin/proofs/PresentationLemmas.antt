@@ -4,10 +4,11 @@ use Rattle.vod_types.specs.declared.paths.Ask.{Ask}
 use Rattle.vod_types.specs.declared.paths.Leaf.TheVariants as leaves
 use Rattle.vod_types.specs.declared.refusal.Refusal.{Refusal}
 use Rattle.vod_types.specs.Results.{◌>>=◌}
+use Rattle.list_model.specs.Manifest.{manifest}
 use Rattle.list_model.specs.Reply.{Answer, leaf_body, whole}
 use Rattle.origin_model.specs.Answers.{ask_answer, leaf_answer, ranged_answer}
-use Rattle.origin_model.specs.Lists.{periods, shown_sequences}
-use Rattle.origin_model.specs.Requests.{Asking, Setup, asking_of}
+use Rattle.origin_model.specs.Lists.{master_text, periods, shown_sequences}
+use Rattle.origin_model.specs.Requests.{Asking, Setup, asking_of, grid_in_use}
 use Rattle.vod_origin.specs.declared.presentations.Presentation.{Presentation}
 use Rattle.vod_origin.specs.declared.presentations.Presentation.TheVariants.{Master, Description}
 use Rattle.vod_origin.specs.Presentations.{asking_in, leaf_presented, text_due}
@@ -29,8 +30,8 @@ module _ (o : Setup) (ask : Ask) (p : Presentation) (leaf_is : ask.leaf ≡ leaf
 
   by_leaf : (p : Presentation) (a : Asking) → ranged_answer o a None (leaf_presented p) ≡ (text_due p o a >>= λ bytes. Ok (leaf_body (leaf_presented p) bytes whole))
   unfolding leaf_answer
-  by_leaf Master a = text_shown _ (λ bytes. Ok (leaf_body leaves.Master bytes whole)) (shown_sequences o a)
-  by_leaf Description a = text_shown _ (λ bytes. Ok (leaf_body leaves.Mpd bytes whole)) (periods o a)
+  by_leaf Master a = text_shown (master_text o a) (λ bytes. Ok (leaf_body leaves.Master bytes whole)) (shown_sequences o a)
+  by_leaf Description a = text_shown (manifest (grid_in_use o a).step) (λ bytes. Ok (leaf_body leaves.Mpd bytes whole)) (periods o a)
 
   of_ask : (a : Asking) → ranged_answer o a None ask.leaf ≡ (asking_in a >>= text_due p o >>= shown_as)
   of_ask a = ap (ranged_answer o a None) leaf_is ∙ by_leaf p a

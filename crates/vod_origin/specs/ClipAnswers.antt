@@ -1,5 +1,5 @@
 -- What the answers of clips keep, whole and in part; this project's own.
-use Rattle.std.proofs.Common.{◌≡◌, ℕ, ◌+◌, ◌-◌, ◌≤◌, ◌<◌, List, drop, length, length-drop, length-take-le, Option, Some, None, Result, Ok, Err, IfSome, refl, sym, ap, ◌∙◌, subst, arith}
+use Rattle.std.proofs.Common.{◌≡◌, ℕ, ◌+◌, ◌-◌, ◌≤◌, ◌<◌, List, drop, length, length-drop, length-take-le, Option, Some, None, Result, Ok, Err, IfSome, refl, ap, ◌∙◌, subst, arith}
 use Rattle.std.specs.Prelude.{MatchResult, ok_or}
 use Rattle.vod_types.specs.declared.paths.ByteRange.{ByteRange}
 use Rattle.vod_types.specs.declared.paths.Leaf.TheVariants.{Clip}
@@ -15,7 +15,7 @@ use Rattle.media_model.proofs.ClipSizes.{length-clip}
 use Rattle.vod_source.specs.Stored.{Files}
 use Rattle.vod_http.specs.Answered.{MayRefuse}
 use Rattle.origin_model.specs.Answers.{clip_answer, lone_clip}
-use Rattle.origin_model.specs.Clips.{PlannedClip, asked_part, checked_clip, checked_part, clip_audio, clip_body, clip_bytes, clip_length, clip_video, one_piece, part_fault, planned_clip}
+use Rattle.origin_model.specs.Clips.{PlannedClip, checked_clip, checked_part, clip_audio, clip_body, clip_bytes, clip_length, clip_video, one_piece, part_fault, planned_clip}
 use Rattle.origin_model.specs.Loaded.{CheckedPiece, checked, checked_in, loaded}
 use Rattle.origin_model.specs.Requests.{Setup, Asking, cutting, timeline_asked}
 use Rattle.answer_laws.specs.Refusals.{IsPathRefusal}

@@ -36,6 +36,14 @@ pub enum Presentation {
     Description,
 }
 
+// Of what a presentation is made, with the settings and in the folder of all files.
+#[derive(Clone, Copy)]
+struct Subject<'a> {
+    settings: &'a Settings,
+    root: &'a str,
+    asking: &'a Asking,
+}
+
 /// The reply with a presentation of what is asked for.
 pub(crate) fn presentation_reply<S: Store>(
     alloc: Global,
@@ -94,13 +102,16 @@ fn text<S: Store>(
         Ok(held) => held,
         Err(refusal) => return Err(refusal),
     };
+    let subject = Subject {
+        settings,
+        root,
+        asking,
+    };
     let text = text_over::<S, Brand>(
         alloc,
         &mut held,
         store,
-        settings,
-        root,
-        asking,
+        subject,
         presentation,
         Blank::new(1),
     );
@@ -113,9 +124,7 @@ fn text_over<S: Store, L: Ledger>(
     alloc: Global,
     metas: &mut Metas,
     store: &mut S,
-    settings: &Settings,
-    root: &str,
-    asking: &Asking,
+    subject: Subject<'_>,
     presentation: Presentation,
     blank: Blank,
 ) -> Result<Vec<u8>, Refusal>
@@ -124,9 +133,9 @@ fn text_over<S: Store, L: Ledger>(
     requires some { 0 < L.parts }
     requires held { IfSome (S.content store.old) (λ files. AreTrue files metas.old) }
     ensures told { IfSome (S.content store.old) (λ files.
-        AnswersUnlessFailed (λ text. text.items) result (text_due presentation (setup_of settings.now root.now files) (asking_view asking.now))) }
+        AnswersUnlessFailed (λ text. text.items) result (text_due presentation (setup_of subject.entry.settings.now subject.entry.root.now files) (asking_view subject.entry.asking.now))) }
     ensures turned { IfSome (S.content store.old) (λ files.
-        AreTurns files (names_presented presentation (setup_of settings.now root.now files) (asking_view asking.now)) result
+        AreTurns files (names_presented presentation (setup_of subject.entry.settings.now subject.entry.root.now files) (asking_view subject.entry.asking.now)) result
         (names_held metas.old) (names_held metas.new) (S.log store.old) (S.log store.new)) }
     ensures held { IfSome (S.content store.old) (λ files. AreTrue files metas.new) }
     ensures refused { IfErr result IsPathRefusal }
@@ -135,6 +144,11 @@ fn text_over<S: Store, L: Ledger>(
     ensures store_failed { IsErrOf result StoreFailed → Rose (S.faults store.old) (S.faults store.new) }
 {
     let mut steps = Steps::<L>::start(blank);
+    let Subject {
+        settings,
+        root,
+        asking,
+    } = subject;
     match presentation {
         Presentation::Master => {
             master_playlist(alloc, metas, store, settings, root, asking, &mut steps)

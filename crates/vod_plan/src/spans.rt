@@ -3,7 +3,7 @@
 ghost use Rattle.std.specs.Prelude.{◌≡◌, [], is_some, IsSome, Some};
 ghost use Rattle.std.specs.Option.{option_map_or};
 ghost use Rattle.mp4_model.specs.Samples.{sample_count};
-ghost use Rattle.vod_meta.specs.Shown.{places_of, times_of};
+ghost use Rattle.vod_meta.specs.Shown.{places_of, runs_of, times_of};
 ghost use Rattle.vod_plan.specs.Ranges.{range_of, RowRange};
 ghost use Rattle.vod_plan.specs.Spans.{edit_of_span, piece_view, rows_in, span_of, IsPlanPiece};
 
@@ -94,6 +94,14 @@ impl PlanPiece {
             Ok(view) => view.samples,
             Err(_) => 0,
         }
+    }
+
+    /// The timescale, the times and the places of its track of a kind.
+    pub fn runs(&self, kind: Kind) -> (u32, TimeRuns<'_>, ChunkRuns<'_>)
+        requires some { IsSome (range_of kind (piece_view self.now)) }
+        ensures { (r : RowRange) → range_of kind (piece_view self.now) ≡ Some r → result ≡ runs_of r.track }
+    {
+        self.meta.runs(self.range(kind).track).unwrap()
     }
 
     /// The times of its track of a kind.

@@ -198,8 +198,9 @@ fn begin<L: Ledger>(piece: &PlanPiece, kind: Kind, place: u32, steps: &mut Steps
     ensures looks { steps.new ≤ steps.old + 384 }
 {
     let row = u64::from(piece.range(kind).from);
-    let times = piece.times(kind).cursor(row, steps);
-    let places = piece.places(kind).cursor(row, steps);
+    let (_, runs, chunks) = piece.runs(kind);
+    let times = runs.cursor(row, steps);
+    let places = chunks.cursor(row, steps);
     Spot {
         piece: place,
         times,
@@ -222,9 +223,8 @@ fn row_at<L: Ledger>(piece: &PlanPiece, kind: Kind, spot: &mut Spot, steps: &mut
 {
     let number = spot.times.row;
     let file = spot.piece;
-    let timescale = piece.timescale(kind);
     let cut = Cut::new(kind, &piece.range(kind));
-    let sample = sample_at(piece, kind, spot, steps);
+    let (timescale, sample) = sample_at(piece, kind, spot, steps);
     DueRow {
         file,
         base: piece.base,
@@ -232,29 +232,32 @@ fn row_at<L: Ledger>(piece: &PlanPiece, kind: Kind, spot: &mut Spot, steps: &mut
     }
 }
 
-// The sample at a spot, which goes on to the next one.
+// The timescale of a track and its sample at a spot, which goes on to the next one.
 fn sample_at<L: Ledger>(
     piece: &PlanPiece,
     kind: Kind,
     spot: &mut Spot,
     steps: &mut Steps<L>,
-) -> FlatSample
+) -> (u32, FlatSample)
     requires piece { IsPlanPiece piece.now }
     requires next { HasNext kind (piece_view piece.now) spot.old }
-    ensures sample { (r : RowRange) → range_of kind (piece_view piece.now) ≡ Some r → flat_view result ≡ flat_row r.track.tables spot.old.times.row }
+    ensures timescale { (r : RowRange) → range_of kind (piece_view piece.now) ≡ Some r → result.0 ≡ r.track.timescale }
+    ensures sample { (r : RowRange) → range_of kind (piece_view piece.now) ≡ Some r → flat_view result.1 ≡ flat_row r.track.tables spot.old.times.row }
     ensures inside { (r : RowRange) → range_of kind (piece_view piece.now) ≡ Some r → IsIn r spot.new.times spot.new.places }
     ensures next { spot.new.times.row ≡ spot.old.times.row + 1 }
     ensures same { spot.new.piece ≡ spot.old.piece }
     ensures looks { steps.new ≤ steps.old + 8 }
 {
-    let (decode_time, composition_offset, delta, sync) = spot.times.next(&piece.times(kind), steps);
-    let (offset, size) = spot.places.next(&piece.places(kind), steps);
-    FlatSample {
+    let (timescale, times, places) = piece.runs(kind);
+    let (decode_time, composition_offset, delta, sync) = spot.times.next(&times, steps);
+    let (offset, size) = spot.places.next(&places, steps);
+    let sample = FlatSample {
         offset,
         size,
         decode_time,
         delta,
         composition_offset,
         sync,
-    }
+    };
+    (timescale, sample)
 }

@@ -1,5 +1,6 @@
 use Rattle.vod_source.proofs.CallLemmas.{told_with_all}
 use Rattle.vod_app.specs.declared.words.Order.TheVariants as orders
+use Rattle.vod_app.proofs.RehearsalLemmas.{unrefused_status}
 use Rattle.vod_app.proofs.run.Goals as goal
 
 pub returns-clause-get : goal.returns-clause-get
@@ -76,3 +77,6 @@ returns-clause-rehearse g c = λ n is. let r = c.run_command-end.ensures.rehears
 
 pub returns-clause-rehearsed_unread : goal.returns-clause-rehearsed_unread
 returns-clause-rehearsed_unread g c = λ n is. (c.run_command-end.ensures.rehearsed n is).1
+
+pub returns-clause-rehearsed_status : goal.returns-clause-rehearsed_status
+returns-clause-rehearsed_status g c = λ n is. unrefused_status _ _ c.status-status.ensures (c.run_command-end.ensures.unrefused n is)

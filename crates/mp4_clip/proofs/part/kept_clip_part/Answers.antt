@@ -22,8 +22,8 @@ returns-in-Ok-clause-told g c =
     let sequence = c.args.sequence in
     let t = c.args.timeline.now in
     let came : IfSome content (λ known. (grid : SegmentGrid) (align : Bool) →
-        Came facts_of (Ok c.in-Ok.rows) (as_facts (planned_clip (cutting_of known c.args.edits grid align) c.args.asked t sequence))
-        (turns known (names_held c.args.metas.now) (clip_looks sequence t)).reads (g.S.Store.log c.args.store.now) (g.S.Store.log c.clip_rows.new.store)) =
+    Came facts_of (Ok c.in-Ok.rows) (as_facts (planned_clip (cutting_of known c.args.edits grid align) c.args.asked t sequence))
+    (turns known (names_held c.args.metas.now) (clip_looks sequence t)).reads (g.S.Store.log c.args.store.now) (g.S.Store.log c.clip_rows.new.store)) =
     told_with_both content _ _ _ c.in-Ok.ensures.told c.in-Ok.ensures.turned (λ known told turned grid align. record { answered = told grid align; logged = turned.logged }) in
     told_with_other content (g.S.Store.content c.clip_rows.new.store) _ _ _ c.in-Ok.ensures.content came c.rows_part.ensures.told
     (λ known came later grid align. whole-found (cutting_of known c.args.edits grid align) c.args.asked t sequence c.args.range _ c.in-Ok.rows c.rows_part.result _ _ _

@@ -11,19 +11,19 @@ pub returns-clause-inside : goal.returns-clause-inside
 returns-clause-inside g c = λ r e.
     let good = good_range c.args.kind c.args.piece.now r c.requires.piece e in
     let row : c.from-row.result ≡ r.from = c.from-row.ensures ∙ c.range.ensures.from r e in
-    let timed = subst (λ (t : SampleTables). times_stand_at t c.from-row.result c.cursor-times.result) (ap (λ x. x.tables) (c.times.ensures r e)) c.cursor-times.ensures.stands in
-    let placed = subst (λ (t : SampleTables). places_stand_at t c.from-row.result c.cursor-places.result) (ap (λ x. x.tables) (c.places.ensures r e)) c.cursor-places.ensures.stands in
+    let timed = subst (λ (t : SampleTables). times_stand_at t c.from-row.result c.cursor-times.result) (ap (λ x. x.1.tables) (c.runs-runs.ensures r e)) c.cursor-times.ensures.stands in
+    let placed = subst (λ (t : SampleTables). places_stand_at t c.from-row.result c.cursor-places.result) (ap (λ x. x.2.tables) (c.runs-runs.ensures r e)) c.cursor-places.ensures.stands in
     stand_in r c.from-row.result c.cursor-times.result c.cursor-places.result (omega (arith, row)) (omega (arith, row, good.from)) timed placed
 
 pub returns-clause-first : goal.returns-clause-first
 returns-clause-first g c = λ r e.
-    times_row c.times.result.tables c.from-row.result c.cursor-times.result c.cursor-times.ensures.stands ∙ c.from-row.ensures ∙ c.range.ensures.from r e
+    times_row c.runs-runs.result.1.tables c.from-row.result c.cursor-times.result c.cursor-times.ensures.stands ∙ c.from-row.ensures ∙ c.range.ensures.from r e
 
 pub returns-clause-looks : goal.returns-clause-looks
 returns-clause-looks g c =
     let found = range_some c.args.kind (piece_view c.args.piece.now) c.requires.some in
-    let timed : c.times.result.indexed ≡ true = ap (λ x. x.indexed) (c.times.ensures found.0 found.1) in
-    let placed : c.places.result.indexed ≡ true = ap (λ x. x.indexed) (c.places.ensures found.0 found.1) in
+    let timed : c.runs-runs.result.1.indexed ≡ true = ap (λ x. x.1.indexed) (c.runs-runs.ensures found.0 found.1) in
+    let placed : c.runs-runs.result.2.indexed ≡ true = ap (λ x. x.2.indexed) (c.runs-runs.ensures found.0 found.1) in
     let first = c.cursor-times.ensures.looks timed in
     let second = c.cursor-places.ensures.looks placed in
     omega (arith, first, second)

@@ -15,7 +15,7 @@ use Rattle.vod_plan.proofs.walk.sample_at.Goals as goal
 pub next-offset-requires-clause-stands : goal.next-offset-requires-clause-stands
 next-offset-requires-clause-stands g c =
     let next = c.requires.next in
-    let tables : c.places.result.tables ≡ next.range.track.tables = ap (λ x. x.tables) (c.places.ensures next.range next.is_range) in
+    let tables : c.runs-timescale.result.2.tables ≡ next.range.track.tables = ap (λ x. x.2.tables) (c.runs-timescale.ensures next.range next.is_range) in
     let row = places_row next.range.track.tables c.args.spot.now.times.row c.args.spot.now.places next.inside.in_places in
     subst (λ (t : SampleTables). places_stand_at t c.args.spot.now.places.row c.args.spot.now.places) (sym tables)
     (subst (λ (n : ℕ). places_stand_at next.range.track.tables n c.args.spot.now.places) (sym row) next.inside.in_places)
@@ -23,10 +23,10 @@ next-offset-requires-clause-stands g c =
 pub next-offset-requires-clause-within : goal.next-offset-requires-clause-within
 next-offset-requires-clause-within g c =
     let next = c.requires.next in
-    let tables : c.places.result.tables ≡ next.range.track.tables = ap (λ x. x.tables) (c.places.ensures next.range next.is_range) in
+    let tables : c.runs-timescale.result.2.tables ≡ next.range.track.tables = ap (λ x. x.2.tables) (c.runs-timescale.ensures next.range next.is_range) in
     let row = places_row next.range.track.tables c.args.spot.now.times.row c.args.spot.now.places next.inside.in_places in
     let good = good_range c.args.kind c.args.piece.now next.range c.requires.piece next.is_range in
-    let count : sample_count c.places.result.tables ≡ sample_count next.range.track.tables = ap sample_count tables in
+    let count : sample_count c.runs-timescale.result.2.tables ≡ sample_count next.range.track.tables = ap sample_count tables in
     omega (arith, count, row, next.left, good.to)
 
 pub returns-clause-sample : goal.returns-clause-sample
@@ -35,8 +35,8 @@ returns-clause-sample g c = λ r e.
     let i : ℕ = c.args.spot.now.times.row in
     let t : SampleTables = next.range.track.tables in
     let same = one_value _ next.range r next.is_range e in
-    let timed : c.times.result.tables ≡ t = ap (λ x. x.tables) (c.times.ensures next.range next.is_range) in
-    let placed : c.places.result.tables ≡ t = ap (λ x. x.tables) (c.places.ensures next.range next.is_range) in
+    let timed : c.runs-timescale.result.1.tables ≡ t = ap (λ x. x.1.tables) (c.runs-timescale.ensures next.range next.is_range) in
+    let placed : c.runs-timescale.result.2.tables ≡ t = ap (λ x. x.2.tables) (c.runs-timescale.ensures next.range next.is_range) in
     let row = places_row t i c.args.spot.now.places next.inside.in_places in
     let good = good_range c.args.kind c.args.piece.now next.range c.requires.piece next.is_range in
     let value = c.next-decode_time.ensures.value ∙ ap (λ (u : SampleTables). (decode_time u i, composition_offset u i, slice_index (sample_deltas u) i, is_sync u i)) timed in
@@ -54,8 +54,8 @@ returns-clause-inside g c = λ r e.
     let i : ℕ = c.args.spot.now.times.row in
     let t : SampleTables = next.range.track.tables in
     let same = one_value _ next.range r next.is_range e in
-    let timed : c.times.result.tables ≡ t = ap (λ x. x.tables) (c.times.ensures next.range next.is_range) in
-    let placed : c.places.result.tables ≡ t = ap (λ x. x.tables) (c.places.ensures next.range next.is_range) in
+    let timed : c.runs-timescale.result.1.tables ≡ t = ap (λ x. x.1.tables) (c.runs-timescale.ensures next.range next.is_range) in
+    let placed : c.runs-timescale.result.2.tables ≡ t = ap (λ x. x.2.tables) (c.runs-timescale.ensures next.range next.is_range) in
     let row = places_row t i c.args.spot.now.places next.inside.in_places in
     let from = next.inside.from in
     let to = next.left in
@@ -66,4 +66,4 @@ returns-clause-inside g c = λ r e.
     (subst (λ (u : SampleTables). places_stand_at u (c.args.spot.now.places.row + 1) c.next-offset.new.self) placed c.next-offset.ensures.stands)))
 
 pub returns-clause-next : goal.returns-clause-next
-returns-clause-next g c = times_row c.times.result.tables (c.args.spot.now.times.row + 1) c.next-decode_time.new.self c.next-decode_time.ensures.stands
+returns-clause-next g c = times_row c.runs-timescale.result.1.tables (c.args.spot.now.times.row + 1) c.next-decode_time.new.self c.next-decode_time.ensures.stands
