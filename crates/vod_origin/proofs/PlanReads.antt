@@ -1,6 +1,6 @@
 -- What is read for a segment or a single I-frame: its turns, and its samples by its plan.
 use Rattle.std.proofs.Common.{◌≡◌, ℕ, Bool, true, false, List, [], ◌∷◌, ◌++◌, map, flat_map, Option, Some, Result, Ok, Err, refl, sym, ap, ap₂, ◌∙◌, subst, ◌≢◌}
-use Rattle.std.specs.Prelude.{IfSome}
+use Rattle.std.specs.Prelude.{not, IfSome}
 use Rattle.std.specs.Result.{result_unwrap_or}
 use Rattle.std.proofs.lemmas.List.Concat.{flat_map-append}
 use Rattle.vod_types.specs.declared.media.Media.{Media}
